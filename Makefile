@@ -185,10 +185,11 @@ test:
 	@tools/timed.py table
 
 # A proof was seen to take 3 GB at most, less than rt allows for, so RT_JOBS has it run one on each processor. gate/library.sh builds in
-# a copy of its own, over crates of which lrc_plan is proved last, so it runs beside the proofs from then on.
+# a copy of its own, over crates of which lrc_plan is proved last, and gate/refused.py over those below farm_files and some of them, so both
+# run beside the proofs from then on.
 proofs:
 	tools/build.py settle
-	RT_JOBS=$(shell nproc) tools/timed.py proofs --beside lrc_plan gate/library.sh rt ci
+	RT_JOBS=$(shell nproc) tools/timed.py proofs --beside lrc_plan gate/library.sh --beside farm_files gate/refused.py rt ci
 
 .PHONY: proofs $(BEFORE) $(AFTER)
 $(BEFORE) $(AFTER):

@@ -1,6 +1,6 @@
 #!/usr/bin/env bash
 # Edits that must not compile, which the gate takes none of: each crate's no-compile/*.edit names the compiler's error
-# in its first line, and is then in the form of a must-fail edit. Each is applied to a copy of the repository, and all
+# in its first line, and is then in the form of a wrong body. Each is applied to a copy of the repository, and all
 # are tried at once.
 set -euo pipefail
 cd "$(dirname "$0")/.."

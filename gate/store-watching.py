@@ -291,26 +291,93 @@ def looks(trace):
     return len(re.findall(r"(?:statx|newfstatat|lstat|stat)\([^)]*/a\d+\.\w\w", pathlib.Path(trace).read_text()))
 
 
+def has_strace():
+    return subprocess.run(["sh", "-c", "strace -f -o /dev/null true"], capture_output=True).returncode == 0
+
+
+def traced(place, calls, *arguments):
+    """Runs a command, and gives what strace wrote of these calls, and its output and status."""
+    trace = place / "trace"
+    done = subprocess.run(["strace", "-f", "-qq", "-e", f"trace={calls}", "-o", trace, PROGRAM, *arguments], capture_output=True, text=True,
+                          timeout=120)
+    return trace.read_text(), done
+
+
 def test_parts_look_at_their_part(place, choose):
-    """A part of ten looks at some tenth of the files, if strace is there to count it; all parts together make the store whole."""
-    store, many = place / "s", 200
+    """A part of ten looks at some tenth of the files, if strace is there to count it, also one that writes a report and counters where
+    nothing is, or where a run wrote others; but at all, if a fragment may be at the report's path. All parts together make the store
+    whole."""
+    store, many, report, counted = place / "s", 200, place / "report", place / "counters"
     names = [f"a{k}" for k in range(many)]
     all_of_it = make(store, choose, names, 16)
-    has_strace = subprocess.run(["sh", "-c", "strace -f -o /dev/null true"], capture_output=True).returncode == 0
-    if has_strace:
-        for part in ([], ["--part", "1/10"], ["--part", "1/10", "--code", "6-2-2"]):
-            trace = place / "trace"
-            subprocess.run(["strace", "-f", "-qq", "-e", "trace=%stat,statx", "-o", trace, PROGRAM, "repair", "-n", "-q", *part, store],
-                           capture_output=True, timeout=120)
+    tenth = ["--part", "1/10"]
+    watched = [*tenth, "--report", report, "--progress", counted]
+    other = place / "other"
+    other.write_text("stripe,place,outcome,details\n")
+    if has_strace():
+        for options, is_part in (([], False), (tenth, True), ([*tenth, "--code", "6-2-2"], True), (watched, True), (watched, True),
+                                 ([*watched, "--json"], True), (watched, True), ([*tenth, "--report", other], False), (watched, True)):
+            trace, _ = traced(place, "%stat,statx", "scrub", "-q", *options, store)
             found = looks(trace)
             # Each stripe has nine files, and is looked at once when the store is listed and once when it is read.
-            most = 2.5 * 9 * many * (0.25 if part else 1)
-            check(9 * many * (0.02 if part else 1) <= found <= most, f"{part}: {found} looks, at most {most}")
+            most = 2.5 * 9 * many * (0.25 if is_part else 1)
+            check(9 * many * (0.02 if is_part else 0.9) <= found <= most, f"{options}: {found} looks, at most {most}")
+        report.write_text("")
+        trace, _ = traced(place, "%stat,statx", "scrub", "-q", *watched, store)
+        check(looks(trace) <= 2.5 * 9 * many * 0.25, "a part looks at all if its report is empty")
     else:
         print("store-watching: left out: how many files a part looks at (strace isn't installed)")
     for part in range(1, 11):
-        run("repair", "--part", f"{part}/10", store)
+        run("repair", "--part", f"{part}/10", "--report", report, "--progress", counted, store)
     check(is_whole(store, all_of_it), "the store isn't whole")
+
+
+def test_reports_at_fragments_of_other_parts(place, choose):
+    """A report or counters at a path that leads to a fragment of any part are refused, by each part."""
+    store, outside = place / "s", place / "outside"
+    all_of_it = make(store, choose, ["a", "b", "c"], 40, ())
+    outside.mkdir()
+    for name in ("a.x0", "b.p1"):
+        os.link(store / name, outside / f"link-{name}")
+        (outside / f"moved-{name[0]}.x3").write_bytes(all_of_it[f"{name[0]}.x3"])
+        (store / f"{name[0]}.x3").unlink()
+        (store / f"{name[0]}.x3").symlink_to(outside / f"moved-{name[0]}.x3")
+    for path in sorted(outside.iterdir()):
+        before = path.read_bytes()
+        for part in range(1, 4):
+            for option in ("--report", "--progress"):
+                _, said = run("scrub", "--part", f"{part}/3", option, path, store, status=2)
+                check(said == f"rebuild-store: {path}: is a file of the store, and no place for a report\n", said)
+        check(path.read_bytes() == before, f"{path} has changed")
+
+
+def test_folder_by_folder(place, choose):
+    """A store whose disks have folders below them is repaired folder by folder: a run whose pattern names one lists no other."""
+    store, folders = place / "s", ("00", "a7", "ff")
+    all_of_it = {}
+    for folder in folders:
+        for name in (f"{folder}-{k}" for k in range(5)):
+            for of, data in stripe("6-2-2", 24, choose).items():
+                path = store / of / folder / name
+                all_of_it[path] = data
+                if of not in ("x2", "p0"):
+                    path.parent.mkdir(parents=True, exist_ok=True)
+                    path.write_bytes(data)
+    for of in ("x2", "p0"):
+        (store / of).mkdir()
+    for number, folder in enumerate(folders):
+        pattern = f"{{place}}/{folder}/{{stripe}}"
+        if has_strace():
+            trace, done = traced(place, "openat", "lost", "--names", pattern, store)
+            check(len(done.stdout.splitlines()) == 10, f"{done}")
+            opened = {found for found in re.findall(r'openat\([^"]*"([^"]*)"[^)]*O_DIRECTORY', trace) if found.startswith(f"{store}/")}
+            check(opened and all(pathlib.Path(it).name == folder for it in opened), f"{folder}: {sorted(opened)}")
+        said, _ = run("repair", "--names", pattern, store)
+        check(said.count("\n") == 1 and "10 fragments" in said, said)
+        there = {path: path.read_bytes() for path in store.rglob("*") if path.is_file()}
+        whole = {path for path in all_of_it if path.parent.name in folders[: number + 1]}
+        check(whole <= set(there) and all(there[path] == all_of_it[path] for path in there), f"after {folder}")
+    check(set(there) == set(all_of_it), "the store isn't whole")
 
 
 def main():

@@ -1,20 +1,22 @@
 #!/usr/bin/env bash
-# Tests the edits in must-fail, wrong-bodies and no-compile of crates/*, and in wrong-bodies of library/ and companion/: the text that an
-# edit replaces is in its file once, each edit that CONTRIBUTING.md names in quotes is there, and no must-fail has a single edit. With the
-# argument `rows` it prints them all, each with its kind and its file.
+# Tests the edits in wrong-bodies and no-compile of crates/*, and in wrong-bodies of library/ and companion/: the text that an edit replaces
+# is in its file once, each edit that CONTRIBUTING.md names in quotes is there, and no crate has edits in must-fail, for which `rt ci` would
+# prove it once more. With the argument `rows` it prints them all, each with its kind, or "gate" if gate/refused.py tries it, and its file.
 set -euo pipefail
 cd "$(dirname "$0")/.."
 scratch=$(mktemp -d)
 trap 'rm -rf "$scratch"' EXIT
 
 rows() {
-  local kind edit name below
-  for kind in must-fail wrong-bodies no-compile; do
+  local kind edit name below said
+  for kind in wrong-bodies no-compile; do
     for edit in crates/*/"$kind"/*.edit {library,companion}/"$kind"/*.edit; do
       [ -e "$edit" ] || continue
       name=$(basename "$edit" .edit)
       below=${edit#crates/}
-      printf '%-12s %-12s %-60s %s\n' "${below%%/*}" "$kind" "${name//_/ }" "$(sed -n '1s/^file: //p' "$edit")"
+      said=$kind
+      ! grep -q '^refused in: ' "$edit" || said=gate
+      printf '%-12s %-12s %-60s %s\n' "${below%%/*}" "$said" "${name//_/ }" "$(sed -n 's/^file: //p' "$edit" | head -1)"
     done
   done
 }
@@ -25,11 +27,11 @@ if [ "${1:-}" = rows ]; then
   exit
 fi
 shopt -s nullglob
-tools/edits.py crates/*/{must-fail,wrong-bodies,no-compile}/*.edit {library,companion}/wrong-bodies/*.edit
+tools/edits.py crates/*/{wrong-bodies,no-compile}/*.edit {library,companion}/wrong-bodies/*.edit
 
-for folder in crates/*/must-fail; do
-  own=("$folder"/*.edit)
-  [ ${#own[@]} != 1 ] || { echo "$folder: a single edit costs a whole proof of the crate: two or more belong here, or none"; exit 1; }
+for edit in crates/*/must-fail/*.edit; do
+  echo "$edit: rt ci would prove its crate once more: it belongs in wrong-bodies, and with a line 'refused in: FUNCTION' the gate tries it"
+  exit 1
 done
 
 while read -r name; do

@@ -1,5 +1,5 @@
 #!/usr/bin/env python3
-"""Runs the tests over each wrong body of crates/*/must-fail and crates/*/wrong-bodies, in a copy of the repository and without a
+"""Runs the tests over each wrong body of crates/*/wrong-bodies, in a copy of the repository and without a
 proof, and says which of them the tests notice too. With names of crates it tries theirs.
 
 An edit that no test notices may still change an answer: a proof says more than tests. CONTRIBUTING.md says which those are.
@@ -68,7 +68,7 @@ def ended(folders, without):
 
 
 def main():
-    crates = sys.argv[1:] or sorted({it.parent.name for it in [*ROOT.glob("crates/*/must-fail"), *ROOT.glob("crates/*/wrong-bodies")]})
+    crates = sys.argv[1:] or sorted(it.parent.name for it in ROOT.glob("crates/*/wrong-bodies"))
     with tempfile.TemporaryDirectory() as copy:
         copy = pathlib.Path(copy)
         subprocess.run([ROOT / "tools/copy-tree.sh", copy], check=True)
@@ -79,8 +79,7 @@ def main():
                 if folder not in without:
                     # A test of millions of steps may fail without an edit: here they are interpreted.
                     without[folder] = failed(folder)
-            edits = sorted([*ROOT.glob(f"crates/{crate}/must-fail/*.edit"), *ROOT.glob(f"crates/{crate}/wrong-bodies/*.edit")])
-            for edit in edits:
+            for edit in sorted(ROOT.glob(f"crates/{crate}/wrong-bodies/*.edit")):
                 kept = edited(edit, copy / "crates" / crate)
                 print(f"{crate}/{edit.stem}: {ended(folders, without)}", flush=True)
                 for path, text in kept.items():

@@ -1,14 +1,14 @@
 #!/usr/bin/env python3
 """Times what the gate runs, and prints at its end what each crate and each script took.
 
-    timed.py anew                                  forgets what was timed before
-    timed.py script COMMAND..                      runs a script
-    timed.py proofs [--beside CRATE SCRIPT] rt ci  runs the proofs, and a script beside them as soon as they have proved this crate
-    timed.py table                                 prints what was timed since `anew`
+    timed.py anew                                   forgets what was timed before
+    timed.py script COMMAND..                       runs a script
+    timed.py proofs [--beside CRATE SCRIPT].. rt ci runs the proofs, and scripts beside them, each as soon as they have proved its crate
+    timed.py table                                  prints what was timed since `anew`
 
-The status is that of what was run. `rt ci` says when a crate is proved, but not when its proof began nor what it took, and nothing of what
-edits take. So its processes are looked at once a second: how many seconds of a processor each has had, for which crate and which part of
-its proof. Left out are processes of another form, and of each what it had after the last look."""
+The status is that of what was run. `rt ci` says when a crate is proved, but not when its proof began nor what it took. So its processes are
+looked at once a second: how many seconds of a processor each has had, for which crate and which part of its proof. Left out are processes
+of another form, and of each what it had after the last look."""
 
 import collections
 import concurrent.futures
@@ -29,19 +29,16 @@ TIMES = ROOT / "out" / "gate-times"
 BETWEEN = 1
 TICKS = os.sysconf("SC_CLK_TCK")
 # The lines by which `rt ci` says how far it is, after which it is said how much time has passed.
-MARKS = re.compile(r"rt: .* (?:proved|NOT PROVED|trying its must-fail edits \(\d+\))$")
-# Those that say how many edits of a crate are tried, and that it was proved by an earlier run.
-EDITS = re.compile(r"rt: (\w+): trying its must-fail edits \((\d+)\)$")
+MARKS = re.compile(r"rt: .* (?:proved|NOT PROVED)$")
+# Those that say that a crate was proved by an earlier run.
 KNOWN = re.compile(r"rt: (\w+) is kept: ")
 # Those from which on what was proved of a crate is there for others.
 PROVED = r"rt: {} (?:proved$|is kept: )"
-PARTS = ("proof", "tests", "seed", "edits")
+PARTS = ("proof", "tests")
 HEAD = """
 What the gate took. First rt ci, by crates, in seconds of its processes' processor time, which is looked at once a second:
   proof       the crate's proof, and building it if it is a program
   tests       the proof of its tests, and building them
-  seed        its proof once more, over which its wrong bodies are tried
-  edits       its wrong bodies, and how many they are; below, each by itself
   from, to    minutes and seconds after rt ci began, when it was first and last at work on the crate, which may have waited in between
 """
 
@@ -76,22 +73,13 @@ def script(command):
 
 
 def work_of(words, folder):
-    """For which crate and which part of its proof a process with these words works in this folder, and for which edit, or None where it
-    isn't the prover's. Edits are tried in folders of their own, over what the seed holds: the copy of it has the edit's number."""
+    """For which crate and which part of its proof a process with these words works in this folder, or None where it isn't the prover's."""
     if "--crate-name" not in words[:-1]:
         return None
     name = words[words.index("--crate-name") + 1]
-    if folder.parent.name == "crates" and folder.name == name:
-        return name, "tests" if "--test" in words else "proof", None
-    over = words[words.index("--incremental") + 1] if "--incremental" in words[:-1] else ""
-    number = pathlib.Path(over).name
-    return name, "seed" if number == "seed" else "edits", number if number.isdigit() else None
-
-
-def name_of(crate, number):
-    """The name of a crate's edit with this number, which is that of its file among all in order."""
-    names = sorted(it.stem for it in (ROOT / "crates" / crate / "must-fail").glob("*.edit"))
-    return names[int(number)].replace("_", " ") if int(number) < len(names) else number
+    if folder.parent.name != "crates" or folder.name != name:
+        return None
+    return name, "tests" if "--test" in words else "proof"
 
 
 class Seen:
@@ -144,22 +132,15 @@ class Seen:
         return self.work[number, start]
 
     def keep(self):
-        parts = collections.defaultdict(list)
-        for work in self.first:
-            parts[work[:2]].append(work)
-        for part, works in parts.items():
-            had = {work: sum(had for its, had in self.seconds.values() if its == work) for work in works}
-            first, last = min(self.first[it] for it in works), max(self.last[it] for it in works)
-            keep(crate=part[0], part=part[1], seconds=sum(had.values()), first=first, last=last)
-            for work in works:
-                if work[2]:
-                    keep(edit=name_of(work[0], work[2]), of=work[0], seconds=had[work])
+        for work, first in self.first.items():
+            had = sum(had for its, had in self.seconds.values() if its == work)
+            keep(crate=work[0], part=work[1], seconds=had, first=first, last=self.last[work])
 
 
-def proofs(crate, beside, command):
-    """Runs `rt ci`, says after some of its lines how much time has passed, and starts the script beside it; gives the status of the first
-    that failed."""
-    start, scripts, waits = time.monotonic(), [], []
+def proofs(beside, command):
+    """Runs `rt ci`, says after some of its lines how much time has passed, and starts each of these scripts beside it, when its crate is
+    proved; gives the status of the first that failed."""
+    start, scripts, waits, left = time.monotonic(), [], [], list(beside)
     ran = subprocess.Popen(command, stdout=subprocess.PIPE, text=True, errors="replace")
     seen, ended = Seen(ran.pid), threading.Event()
 
@@ -169,10 +150,11 @@ def proofs(crate, beside, command):
 
     with concurrent.futures.ThreadPoolExecutor() as pool:
 
-        def start_beside(**proved):
-            if beside and not scripts:
-                scripts.append(subprocess.Popen([beside], env={**os.environ, **proved}))
-                waits.append(pool.submit(end, [beside], scripts[0], time.monotonic()))
+        def start_beside(those, **proved):
+            for crate, script in those:
+                left.remove((crate, script))
+                scripts.append(subprocess.Popen([script], env={**os.environ, **proved}))
+                waits.append(pool.submit(end, [script], scripts[-1], time.monotonic()))
 
         try:
             pool.submit(watch)
@@ -181,16 +163,13 @@ def proofs(crate, beside, command):
                 if MARKS.match(line):
                     passed = int(time.monotonic() - start)
                     print(f"timed: {passed // 60} min {passed % 60} s", flush=True)
-                if found := EDITS.match(line):
-                    keep(edits=found[1], count=int(found[2]))
                 if found := KNOWN.match(line):
                     keep(known=found[1])
-                if crate and re.match(PROVED.format(crate), line):
-                    # What is proved until then is in this folder as long as `rt ci` runs.
-                    start_beside(PROVED_IN=str(ROOT))
+                # What is proved until then is in this folder as long as `rt ci` runs.
+                start_beside([it for it in left if re.match(PROVED.format(it[0]), line)], PROVED_IN=str(ROOT))
             statuses = [end(command, ran, start)]
             if statuses == [0]:
-                start_beside()
+                start_beside(list(left))
             statuses += [it.result() for it in waits]
         finally:
             ended.set()
@@ -206,21 +185,21 @@ def clock(seconds):
 
 def table():
     """Prints what was timed."""
-    crates, counts = collections.defaultdict(dict), {it["edits"]: it["count"] for it in kept("edits")}
+    crates = collections.defaultdict(dict)
     for it in kept("crate"):
         crates[it["crate"]][it["part"]] = it
     print(HEAD)
-    rows = [("crate", *PARTS, "", "from", "to")]
+    rows = [("crate", *PARTS, "from", "to")]
     for name, parts in sorted(crates.items(), key=lambda it: min(part["first"] for part in it[1].values())):
         had = [f"{parts[it]['seconds']:.0f}" if it in parts else "-" for it in PARTS]
-        count = f"({counts[name]})" if name in counts else ""
-        rows.append((name, *had, count, clock(min(it["first"] for it in parts.values())), clock(max(it["last"] for it in parts.values()))))
+        rows.append((name, *had, clock(min(it["first"] for it in parts.values())), clock(max(it["last"] for it in parts.values()))))
     sums = [sum(parts[it]["seconds"] for parts in crates.values() if it in parts) for it in PARTS]
-    rows.append(("all", *[f"{it:.0f}" for it in sums], f"({sum(counts.values())})", "", ""))
+    rows.append(("all", *[f"{it:.0f}" for it in sums], "", ""))
     for name, *others in rows:
         print(f"{name:<20}" + "".join(f"{it:>8}" for it in others).rstrip())
-    print("\nThe seconds of each wrong body.")
-    for it in sorted(kept("edit"), key=lambda it: -it["seconds"]):
+    bodies = sorted(kept("edit"), key=lambda it: -it["seconds"])
+    print(f"\nThe seconds of each wrong body, {sum(it['seconds'] for it in bodies):.0f} in all.")
+    for it in bodies:
         print(f"{it['of']:<16}{it['edit']:<56}{it['seconds']:>8.0f}")
     known = [it["known"] for it in kept("known")]
     if known:
@@ -237,10 +216,11 @@ def main(words):
         table()
     elif words[:1] == ["script"] and words[1:]:
         sys.exit(script(words[1:]))
-    elif words[:2] == ["proofs", "--beside"] and words[4:]:
-        sys.exit(proofs(words[2], words[3], words[4:]))
     elif words[:1] == ["proofs"] and words[1:]:
-        sys.exit(proofs(None, None, words[1:]))
+        beside, words = [], words[1:]
+        while words[:1] == ["--beside"] and words[3:]:
+            beside, words = [*beside, (words[1], words[2])], words[3:]
+        sys.exit(proofs(beside, words))
     else:
         sys.exit(__doc__)
 

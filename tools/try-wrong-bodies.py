@@ -1,5 +1,5 @@
 #!/usr/bin/env python3
-"""Tries the edits of crates/*/wrong-bodies, which the proofs must refuse like those of must-fail, and which the gate leaves out for time.
+"""Tries the edits of crates/*/wrong-bodies, which the proofs must refuse, also those that the gate leaves out for time.
 
     try-wrong-bodies.py LEVEL [CRATE..]    those of these crates, or of all; what is built first is built for this level of the processor
 

@@ -26,7 +26,7 @@ impl<'a> FarmValues<'a> {
         }
     }
 
-    // The values that the matches of `farm` have.
+    /// The values that the matches of `farm` have.
     fn of_farm(farm: &ArgMatches<'a>) -> Option<FarmValues<'a>>
         ensures some { IfSome result (λ v. HasValues (rows_of (found_of farm.now)) v.input.now v.output.now v.workers v.queue) }
         ensures none { IfNone result (LacksValues (rows_of (found_of farm.now))) }

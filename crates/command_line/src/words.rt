@@ -14,7 +14,7 @@ use thiserror::Error;
 const NO_COMMAND: &str =
     "error: rebuild takes the command farm, or no arguments at all\n\nFor more information, try '--help'.\n";
 
-// clap's own text would name the range of the type, which is wider than the limits of a farm.
+/// clap's own text would name the range of the type, which is wider than the limits of a farm.
 const BAD_NUMBER: &str = "\
 error: --workers takes a number from 1 to 16, and --queue one from 1 to 1024\n\nFor more information, try '--help'.\n";
 
@@ -76,7 +76,7 @@ pub fn read_words(alloc: Global, words: &[String]) -> Result<Words, WordsFault>
     }
 }
 
-// What matches ask for.
+/// What matches ask for.
 fn asked_of_farm(alloc: Global, matches: &ArgMatches<'_>) -> Result<Words, WordsFault>
     ensures asked { IfOk result (MatchesWords (subcommand_rows_of matches.now)) }
     ensures refused { IfErr result (MatchesFault (subcommand_rows_of matches.now)) }
@@ -92,7 +92,7 @@ fn asked_of_farm(alloc: Global, matches: &ArgMatches<'_>) -> Result<Words, Words
     }
 }
 
-// The text of help, of the version or of a mistake.
+/// The text of help, of the version or of a mistake.
 fn shown(alloc: Global, error: &ParseError) -> Result<Words, WordsFault>
     ensures asked { IfOk result (Shows (kind_of error.now)) }
     ensures refused { IfErr result (ShowsFault (kind_of error.now)) }

@@ -8,7 +8,7 @@ use std::process::ExitCode;
 use std::sync::Wait;
 use std::thread::Threads;
 
-// The targets of each rack's requests.
+/// The targets of each rack's requests.
 const TARGETS: &[&[Place]] = &[&[Place::X0, Place::Y0], &[Place::X0]];
 
 fn main(rt: HostRuntime) -> ExitCode {
@@ -18,7 +18,7 @@ fn main(rt: HostRuntime) -> ExitCode {
     }
 }
 
-// Prints the answers of all racks.
+/// Prints the answers of all racks.
 fn show(rt: &HostRuntime, answers: &[Vec<Outcome>]) -> ExitCode {
     for (rack, answers) in answers.iter().enumerate() {
         for (number, outcome) in answers.iter().enumerate() {
@@ -35,7 +35,7 @@ fn show(rt: &HostRuntime, answers: &[Vec<Outcome>]) -> ExitCode {
     ExitCode::SUCCESS
 }
 
-// The answers to the requests of all racks, of each rack in the order of its list.
+/// The answers to the requests of all racks, of each rack in the order of its list.
 fn answer_all<R: Threads + Wait + Sync>(
     rt: &R,
     alloc: Global,
@@ -53,7 +53,7 @@ fn answer_all<R: Threads + Wait + Sync>(
     run(rt, alloc, &racks, settings, &NoPause)
 }
 
-// A rack's list: a request for each target, from x1, x2 and px.
+/// A rack's list: a request for each target, from x1, x2 and px.
 fn list_of(alloc: Global, targets: &[Place]) -> Result<RackList, AllocError> {
     let mut orders = Vec::new(alloc);
     for target in targets {

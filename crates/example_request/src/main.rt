@@ -7,7 +7,7 @@ use std::alloc::{AllocError, Global};
 use std::process::ExitCode;
 use std::str;
 
-// The fragments of a stripe that survive, each of ten bytes. The sum of x0, x1 and x2 is px.
+/// The fragments of a stripe that survive, each of ten bytes. The sum of x0, x1 and x2 is px.
 const SURVIVORS: &[(Place, &[u8])] = &[
     (Place::X1, b"0123456789"),
     (Place::X2, b"0123456789"),
@@ -32,7 +32,7 @@ fn main(rt: HostRuntime) -> ExitCode {
     }
 }
 
-// The answer to a request for x0. A request that is refused, as one with a name in capital letters, has none.
+/// The answer to a request for x0. A request that is refused, as one with a name in capital letters, has none.
 fn answer(alloc: Global) -> Result<Outcome, AllocError> {
     let mut survivors = Vec::with_capacity(alloc, SURVIVORS.len())?;
     for (place, bytes) in SURVIVORS {

@@ -8,7 +8,7 @@ use store_repair::{
     Found, MemoryStore, Outcome, Reads, Repair, Stripe, StripeFiles, repair_stripe,
 };
 
-// The fragments of the stripe of 01 02 03 04 05 06, each of one byte, but for x0 and p1, which are lost.
+/// The fragments of the stripe of 01 02 03 04 05 06, each of one byte, but for x0 and p1, which are lost.
 const SURVIVORS: &[(Place, u8)] = &[
     (Place::X1, 0x02),
     (Place::X2, 0x03),
@@ -34,7 +34,7 @@ fn main(rt: HostRuntime) -> ExitCode {
     ExitCode::SUCCESS
 }
 
-// Puts what survives into a store, and repairs the stripe.
+/// Puts what survives into a store, and repairs the stripe.
 fn repair(alloc: Global, store: &mut MemoryStore) -> Result<Outcome, AllocError> {
     let mut files = StripeFiles::new();
     for (place, byte) in SURVIVORS {

@@ -19,7 +19,7 @@ use std::alloc::Global;
 use std::sync::Wait;
 use std::thread::{self, Scope, Threads};
 
-// Starts the threads, stops and joins them, and gives the board.
+/// Starts the threads, stops and joins them, and gives the board.
 fn run_in<'s, 'a: 's, E, R: Threads + Wait + Sync, P: Pause>(
     shared: &'s Shared<'s, R, P>,
     scope: &Scope<'s, E>,
@@ -70,7 +70,7 @@ fn run_in<'s, 'a: 's, E, R: Threads + Wait + Sync, P: Pause>(
     }
 }
 
-// What `run` and `run_feeds` share: the board of all racks, with the replies to a lawful merge of each rack's feeds.
+/// What `run` and `run_feeds` share: the board of all racks, with the replies to a lawful merge of each rack's feeds.
 fn run_room<'a, R: Threads + Wait + Sync, P: Pause>(
     rt: &R,
     alloc: Global,

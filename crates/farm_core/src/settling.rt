@@ -9,8 +9,8 @@ use farm_threads::{Board, HandedIn, Job, Pause, Reply, hand_in, reply_to};
 use std::alloc::Global;
 use std::sync::Wait;
 
-// Takes so many items of the request lane, and replies to the jobs among them. There are none: what is left is the end mark after the
-// stops, which are put after all jobs. But no contract says in which order the items of several put ends are taken.
+/// Takes so many items of the request lane, and replies to the jobs among them. There are none: what is left is the end mark after the
+/// stops, which are put after all jobs. But no contract says in which order the items of several put ends are taken.
 fn take_left<'a, R: Wait, P: Pause>(
     rt: &R,
     alloc: Global,
@@ -48,8 +48,8 @@ fn take_left<'a, R: Wait, P: Pause>(
     HandedIn { board, fault }
 }
 
-// Takes so many items of the reply lane, and hands in the replies among them. There are none, since the collector has taken all up to each
-// worker's end, but no contract says so.
+/// Takes so many items of the reply lane, and hands in the replies among them. There are none, since the collector has taken all up to each
+/// worker's end, but no contract says so.
 fn take_replies<'a, R: Wait>(
     rt: &R,
     replies: &mut TakeEnd<Reply<'a>>,
@@ -71,7 +71,7 @@ fn take_replies<'a, R: Wait>(
     HandedIn { board, fault }
 }
 
-// How many items were put in all.
+/// How many items were put in all.
 fn put_total<T: Drop>(ended: &[EndedPut<T>]) -> u64
     requires { length ended.now ≤ 128 }
     ensures { result ≡ sum_by (λ e. length e.put) ended.now }
@@ -83,7 +83,7 @@ fn put_total<T: Drop>(ended: &[EndedPut<T>]) -> u64
     total
 }
 
-// How many items were taken in all, as far as the counts say.
+/// How many items were taken in all, as far as the counts say.
 fn taken_total<T: Drop>(takers: &[TakeEnd<T>]) -> u64
     ensures { result ≤ sum_by (λ e. length e.taken) takers.now }
 {
@@ -94,7 +94,7 @@ fn taken_total<T: Drop>(takers: &[TakeEnd<T>]) -> u64
     total
 }
 
-// The board, where one reply to each number that was drawn was handed in.
+/// The board, where one reply to each number that was drawn was handed in.
 fn conclude<'a>(all: HandedIn<'a>) -> Board<'a>
     requires { HasOneEach all.board.racks all.board all.fault }
     ensures { (result ≡ all.entry.board) × AreMergedRows result.racks result.table }

@@ -34,7 +34,7 @@ pub(crate) struct Room<'a> {
     pub space: Space<'a>,
 }
 
-// The feeders of a rack, which share its gate.
+/// The feeders of a rack, which share its gate.
 fn rack_room<'a>(
     gate: &'a Gate,
     rack: usize,
@@ -94,7 +94,7 @@ fn rack_room<'a>(
     }
 }
 
-// The feeders of all racks, in a list that has room for them.
+/// The feeders of all racks, in a list that has room for them.
 fn racks_for<'a>(
     lists: Lists<'a>,
     gates: &'a [Gate],
@@ -118,7 +118,7 @@ fn racks_for<'a>(
     racks
 }
 
-// How many feeds all racks have.
+/// How many feeds all racks have.
 fn all_feeds(lists: Lists) -> usize
     ensures all { result ≡ all_feeds_of (lists_of lists.entry) }
     ensures few { result ≤ all_feeds_limit }

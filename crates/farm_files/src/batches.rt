@@ -47,7 +47,7 @@ pub struct Batching<'p, P> {
     pub most: u64,
 }
 
-// What one batch is answered with: the farm's settings, its pause, and the files that are read after the batch.
+/// What one batch is answered with: the farm's settings, its pause, and the files that are read after the batch.
 #[derive(Drop)]
 struct Batch<'b, P> {
     settings: Settings,
@@ -55,7 +55,7 @@ struct Batch<'b, P> {
     after: Vec<FileRead>,
 }
 
-// The answers to the pieces of a rack so far, and whether a close has ended it.
+/// The answers to the pieces of a rack so far, and whether a close has ended it.
 #[derive(Drop)]
 struct RackAnswers {
     answers: Vec<FeedAnswer>,
@@ -107,7 +107,7 @@ pub fn answer_lists<'a, R: Threads + Wait + Sync, I: Shelf, P: Pause>(
     Ok(Answered { answers, requests })
 }
 
-// The answers to the lists of the racks of one batch, or of one rack, which is cut.
+/// The answers to the lists of the racks of one batch, or of one rack, which is cut.
 fn answer_racks<'a, R: Threads + Wait + Sync, I: Shelf, P: Pause>(
     rt: &R,
     alloc: Global,
@@ -133,7 +133,7 @@ fn answer_racks<'a, R: Threads + Wait + Sync, I: Shelf, P: Pause>(
     Ok(Answered { answers, requests })
 }
 
-// The answers to feeds, whose survivors' memory goes back to the shelf. Beside it the files may be read ahead that are read after it.
+/// The answers to feeds, whose survivors' memory goes back to the shelf. Beside it the files may be read ahead that are read after it.
 fn answer_feeds<R: Threads + Wait + Sync, I: Shelf, P: Pause>(
     rt: &R,
     alloc: Global,
@@ -166,7 +166,7 @@ fn answer_feeds<R: Threads + Wait + Sync, I: Shelf, P: Pause>(
     Ok(answers)
 }
 
-// The lists of a single rack.
+/// The lists of a single rack.
 fn only_rack(racks: &[RackLists]) -> Option<&[Vec<Record>]>
     ensures lists { IfSome result (λ lists. (racks.now ≡ map (λ list. list.items) lists.now ∷ []) × (length racks.now ≡ 1)) }
     ensures feeds { IfSome result (λ lists. (0 < length lists.now) × (length lists.now ≤ feed_limit)) }
@@ -178,8 +178,8 @@ fn only_rack(racks: &[RackLists]) -> Option<&[Vec<Record>]>
     }
 }
 
-// The answers to the lists of one rack, piece by piece. A piece that has a close ends the rack: of the pieces after it the survivors are
-// read alone, since the report names those that are left out of any request before its own list's close.
+/// The answers to the lists of one rack, piece by piece. A piece that has a close ends the rack: of the pieces after it the survivors are
+/// read alone, since the report names those that are left out of any request before its own list's close.
 fn answer_rack<'a, R: Threads + Wait + Sync, I: Shelf, P: Pause>(
     rt: &R,
     alloc: Global,
@@ -233,7 +233,7 @@ fn answer_rack<'a, R: Threads + Wait + Sync, I: Shelf, P: Pause>(
     Ok(one_rack(alloc, so_far.answers, requests)?)
 }
 
-// The files that are read after the piece that ends at a position: those of the rack's next piece, or where it has none the others, once.
+/// The files that are read after the piece that ends at a position: those of the rack's next piece, or where it has none the others, once.
 fn files_after(
     alloc: Global,
     lists: &[&[Record]],
@@ -249,7 +249,7 @@ fn files_after(
     }
 }
 
-// No requests of each list.
+/// No requests of each list.
 fn none_of_each<'a>(
     alloc: Global,
     lists: &[&'a [Record]],
@@ -263,7 +263,7 @@ fn none_of_each<'a>(
     Ok(requests)
 }
 
-// Each feed's requests, and after them those of the next piece. Taken from the front of at most four.
+/// Each feed's requests, and after them those of the next piece. Taken from the front of at most four.
 fn append_each<'a>(
     alloc: Global,
     mut requests: Vec<Vec<ReadRequest<'a>>>,
@@ -282,7 +282,7 @@ fn append_each<'a>(
     Ok(all)
 }
 
-// The answers to a rack with those to a piece's orders, which are dropped with the survivors, unless a close ended the rack before.
+/// The answers to a rack with those to a piece's orders, which are dropped with the survivors, unless a close ended the rack before.
 fn answer_piece<R: Threads + Wait + Sync, I: Shelf, P: Pause>(
     rt: &R,
     alloc: Global,
@@ -306,7 +306,7 @@ fn answer_piece<R: Threads + Wait + Sync, I: Shelf, P: Pause>(
     Ok(RackAnswers { answers, ended })
 }
 
-// Whether some list has a close.
+/// Whether some list has a close.
 fn have_close(lists: &[RackList]) -> bool
     ensures closed { result ≡ true → HaveClose lists.now }
     ensures opened { result ≡ false → AreOpen lists.now }
@@ -321,7 +321,7 @@ fn have_close(lists: &[RackList]) -> bool
     false
 }
 
-// The answers to the orders of one rack's feeds.
+/// The answers to the orders of one rack's feeds.
 fn answer_orders<R: Threads + Wait + Sync, I: Shelf, P: Pause>(
     rt: &R,
     alloc: Global,
@@ -342,7 +342,7 @@ fn answer_orders<R: Threads + Wait + Sync, I: Shelf, P: Pause>(
     Ok(outcomes)
 }
 
-// The orders of one rack's feeds as those of all racks.
+/// The orders of one rack's feeds as those of all racks.
 fn feeds_of_rack(alloc: Global, orders: Vec<RackList>) -> Result<Feeds, AllocError>
     requires { (0 < length orders.items) × (length orders.items ≤ feed_limit) }
     ensures { IfOk result (λ f. f ≡ orders.items ∷ []) }
@@ -352,7 +352,7 @@ fn feeds_of_rack(alloc: Global, orders: Vec<RackList>) -> Result<Feeds, AllocErr
     Ok(Feeds::from_checked(racks))
 }
 
-// The answers and the requests of one rack as those of all racks.
+/// The answers and the requests of one rack as those of all racks.
 fn one_rack<'a>(
     alloc: Global,
     answers: Vec<FeedAnswer>,

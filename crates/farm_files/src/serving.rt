@@ -94,7 +94,7 @@ pub fn serve<R: Threads + Wait + Sync, I: Shelf, O: Shelf, P: Pause>(
     })
 }
 
-// The number of answers over all racks.
+/// The number of answers over all racks.
 fn count_answers(answers: &[Vec<FeedAnswer>]) -> u64
     requires racks { length answers.now ≤ rack_limit }
     requires few { All (λ a. length a.items ≤ rack_answers) answers.now }

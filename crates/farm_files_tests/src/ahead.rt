@@ -10,7 +10,7 @@ use std::rt::Files;
 use std::sync::Wait;
 use std::thread::Threads;
 
-// A folder with 300 files of 0 to 6 bytes; number 7 of each ten is absent.
+/// A folder with 300 files of 0 to 6 bytes; number 7 of each ten is absent.
 fn make_files<R: Files>(rt: &R, alloc: Global, folder: &str) -> Result<bool, AllocError> {
     if fs::create_dir_all(rt, folder).is_err() {
         return Ok(false);
@@ -32,7 +32,7 @@ const NOTHING: Found = Found {
     links: &[],
 };
 
-// Over folders with these files.
+/// Over folders with these files.
 const SCRIPTS: &[Script] = &[
     Script {
         name: "files read ahead are given as they are",
@@ -110,7 +110,7 @@ fn files_are_read_ahead(rt: HostRuntime) -> Result<(), AllocError> {
     assert_ahead(&rt, &rt, rt.alloc(), scripts())
 }
 
-// What the shelf gives of the first 290 files, which it was to read ahead.
+/// What the shelf gives of the first 290 files, which it was to read ahead.
 fn taken(shelf: &mut ReadAheadShelf, alloc: Global) -> Result<Vec<Vec<u8>>, AllocError> {
     let mut taken = Vec::new(alloc);
     for number in 0..290usize {
@@ -122,7 +122,7 @@ fn taken(shelf: &mut ReadAheadShelf, alloc: Global) -> Result<Vec<Vec<u8>>, Allo
     Ok(taken)
 }
 
-// Whether 290 files from a number on are given as they are where they are read into the memory of the first 290.
+/// Whether 290 files from a number on are given as they are where they are read into the memory of the first 290.
 fn are_given_in_rooms<R: Threads + Sync>(
     rt: &R,
     system: &HostRuntime,
@@ -140,7 +140,7 @@ fn are_given_in_rooms<R: Threads + Sync>(
     Ok(given && count == 261 && shelf.failures() == 0)
 }
 
-// Of memory that other files were read into nothing is given, whether the file now read into it is shorter, longer or absent.
+/// Of memory that other files were read into nothing is given, whether the file now read into it is shorter, longer or absent.
 #[test]
 fn files_read_into_memory_of_others_are_given_as_they_are(rt: HostRuntime) {
     assert!(&rt; make_files(&rt, rt.alloc(), "ahead/rooms") == Ok(true));
@@ -152,13 +152,13 @@ fn files_read_into_memory_of_others_are_given_as_they_are(rt: HostRuntime) {
     }
 }
 
-// A request without survivors, and one with three.
+/// A request without survivors, and one with three.
 const FIRST_WITHOUT: NamedFiles = &[(
     "rack0.csv",
     b"order,stripe,target,length,survivors\nrebuild,abc,y0,3,\nrebuild,abc,x0,3,x1 x2 px\n",
 )];
 
-// What serving these gives, how many files were named to be read ahead, and how many of them were read.
+/// What serving these gives, how many files were named to be read ahead, and how many of them were read.
 fn named_and_read<R: Threads + Wait + Sync>(
     rt: &R,
     alloc: Global,
@@ -169,7 +169,7 @@ fn named_and_read<R: Threads + Wait + Sync>(
     Ok((served, input.ahead.files.len(), input.ahead.next))
 }
 
-// Before a feed's survivors are read, the shelf is asked to read ahead just these.
+/// Before a feed's survivors are read, the shelf is asked to read ahead just these.
 #[test]
 fn what_is_read_is_named_ahead(rt: HostRuntime) {
     let two = Served {

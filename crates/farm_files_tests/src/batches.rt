@@ -11,7 +11,7 @@ use std::alloc::{AllocError, Global};
 use std::sync::Wait;
 use std::thread::Threads;
 
-// The fragments that give the name of each stripe at x0. Of stripe c one is absent.
+/// The fragments that give the name of each stripe at x0. Of stripe c one is absent.
 const FRAGMENTS: NamedFiles = &[
     ("a.x1", &[0]),
     ("a.x2", &[0]),
@@ -26,7 +26,7 @@ const FRAGMENTS: NamedFiles = &[
     ("d.px", b"d"),
 ];
 
-// A rack with one list, one with two feeds, and one with one list.
+/// A rack with one list, one with two feeds, and one with one list.
 const RACKS: NamedFiles = &[
     ("rack0.csv", LIST_OF_FOUR),
     ("rack1.csv", LIST_OF_FOUR),
@@ -41,12 +41,12 @@ fn is_rebuilt(answer: &(usize, Outcome), bytes: &[u8]) -> bool {
     }
 }
 
-// Whether this is a request for the stripe of a name, of which nothing was left out.
+/// Whether this is a request for the stripe of a name, of which nothing was left out.
 fn is_whole(request: &ReadRequest, stripe: &str) -> bool {
     request.listed.stripe() == stripe && request.unread.is_empty()
 }
 
-// Whether these are the answers to the list, and its requests with what was left out of them.
+/// Whether these are the answers to the list, and its requests with what was left out of them.
 fn are_of_list(answers: &[(usize, Outcome)], requests: &[ReadRequest]) -> bool {
     match (answers, requests) {
         ([a, b, c, d], [of_a, of_b, of_c, of_d]) => {
@@ -64,7 +64,7 @@ fn are_of_list(answers: &[(usize, Outcome)], requests: &[ReadRequest]) -> bool {
     }
 }
 
-// Whether these are the answers to the three racks.
+/// Whether these are the answers to the three racks.
 fn are_of_racks(answered: &Answered) -> bool {
     match (answered.answers.as_slice(), answered.requests.as_slice()) {
         ([first, second, third], [of_first, of_second, of_third]) => {
@@ -86,7 +86,7 @@ fn are_of_racks(answered: &Answered) -> bool {
     }
 }
 
-// Of how many survivors the memory is given back, where the racks get their answers with so many workers and batches of so many bytes.
+/// Of how many survivors the memory is given back, where the racks get their answers with so many workers and batches of so many bytes.
 fn given_back<R: Threads + Wait + Sync, P: Pause>(
     rt: &R,
     alloc: Global,
@@ -103,7 +103,7 @@ fn given_back<R: Threads + Wait + Sync, P: Pause>(
     })
 }
 
-// In a run that refuses an allocation or a thread this ends with the refusal, or less memory is given back.
+/// In a run that refuses an allocation or a thread this ends with the refusal, or less memory is given back.
 #[test]
 fn racks_are_answered_a_request_at_a_time(rt: HostRuntime) -> Result<(), AllocError> {
     let given = given_back(&rt, rt.alloc(), (2, 1), &NoPause)?;
@@ -111,9 +111,9 @@ fn racks_are_answered_a_request_at_a_time(rt: HostRuntime) -> Result<(), AllocEr
     Ok(())
 }
 
-// Sizes of batches, each a request, two, three, a list, two racks or all; a rack with two feeds is cut as one with a list. Then of how many
-// survivors the memory is given back: of all batches but the last, into which nothing is read. So of 33 survivors it is those of all
-// requests but one, of two racks, of these again, and none.
+/// Sizes of batches, each a request, two, three, a list, two racks or all; a rack with two feeds is cut as one with a list. Then of how
+/// many survivors the memory is given back: of all batches but the last, into which nothing is read. So of 33 survivors it is those of all
+/// requests but one, of two racks, of these again, and none.
 const MOST: &[(u64, Option<usize>)] = &[
     (0, None),
     (1, Some(30)),
@@ -128,7 +128,7 @@ const MOST: &[(u64, Option<usize>)] = &[
     (u64::MAX, None),
 ];
 
-// Whether the racks get their answers in batches of a size, and the memory of as many survivors as said is given back.
+/// Whether the racks get their answers in batches of a size, and the memory of as many survivors as said is given back.
 fn is_right(given: Result<Option<usize>, AllocError>, wanted: Option<usize>) -> bool {
     match given {
         Ok(Some(rooms)) => wanted.is_none() || wanted == Some(rooms),
@@ -149,14 +149,14 @@ fn racks_are_answered_in_batches_of_any_size(rt: HostRuntime) {
     }
 }
 
-// The numbers that name each request before a close once, and each request and close.
+/// The numbers that name each request before a close once, and each request and close.
 const ALL_REQUESTS: [u64; 3] = [1_111; 3];
 
 const ALL_ORDERS: [u64; 3] = [11_111; 3];
 
 const CUTS: &[u64] = &[1, 2 * OF_REQUEST, 4 * OF_REQUEST, u64::MAX];
 
-// However the racks are cut, a pause is given each request once, by its rack's number and its own, and each close.
+/// However the racks are cut, a pause is given each request once, by its rack's number and its own, and each close.
 #[test]
 fn a_pause_is_given_the_numbers_of_all_lists(rt: HostRuntime) {
     for most in CUTS {
@@ -167,7 +167,7 @@ fn a_pause_is_given_the_numbers_of_all_lists(rt: HostRuntime) {
     }
 }
 
-// Twice a hundred requests whose survivors are absent, and a small one after them.
+/// Twice a hundred requests whose survivors are absent, and a small one after them.
 fn long_list(alloc: Global) -> Result<Vec<u8>, AllocError> {
     let mut list = Vec::from_slice(alloc, HEADER)?;
     for small in [b"rebuild,a,x0,1,x1 x2 px\n", b"rebuild,b,x0,1,x1 x2 px\n"] {
@@ -179,7 +179,7 @@ fn long_list(alloc: Global) -> Result<Vec<u8>, AllocError> {
     Ok(list)
 }
 
-// What is written for these: the requests between and after those whose survivors are absent are answered.
+/// What is written for these: the requests between and after those whose survivors are absent are answered.
 fn has_answers(output: &MemoryShelf) -> bool {
     output.file("rack0-100.a.x0") == Some(b"a".as_slice())
         && output.file("rack0-201.b.x0") == Some(b"b".as_slice())
@@ -202,7 +202,7 @@ fn is_long_list_answered<R: Threads + Wait + Sync>(
     Ok(served == Ok(all) && has_answers(&output))
 }
 
-// Two hundred requests whose survivors are absent list more than a batch.
+/// Two hundred requests whose survivors are absent list more than a batch.
 #[test]
 fn a_list_longer_than_a_batch_is_answered(rt: HostRuntime) {
     assert!(&rt; is_long_list_answered(&rt, rt.alloc()) == Ok(true));

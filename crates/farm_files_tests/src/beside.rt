@@ -101,7 +101,7 @@ fn files_are_read_beside_work(rt: HostRuntime) -> Result<(), AllocError> {
     assert_of_folders(&rt, rt.alloc(), alone)
 }
 
-// Three racks, the second with a feed of one request more.
+/// Three racks, the second with a feed of one request more.
 const LISTS: NamedFiles = &[
     ("rack0.csv", LIST_OF_FOUR),
     ("rack1.csv", LIST_OF_FOUR),
@@ -112,7 +112,7 @@ const LISTS: NamedFiles = &[
     ("rack2.csv", LIST_OF_FOUR),
 ];
 
-// How many files are named beside a batch and read after it, where these are cut into batches of so many bytes.
+/// How many files are named beside a batch and read after it, where these are cut into batches of so many bytes.
 fn named_and_read<R: Threads + Wait + Sync>(
     rt: &R,
     alloc: Global,
@@ -131,8 +131,8 @@ const READ: &[(u64, usize)] = &[
     (16 * OF_REQUEST, 0),
 ];
 
-// Of all batches but the first the files are named beside the batch before, feed after feed: of 39 files those of all requests but one, of
-// two racks, of one, and none. A rack lists five requests, the second one six.
+/// Of all batches but the first the files are named beside the batch before, feed after feed: of 39 files those of all requests but one, of
+/// two racks, of one, and none. A rack lists five requests, the second one six.
 #[test]
 fn the_files_of_the_next_batch_are_read_beside_work(rt: HostRuntime) {
     for (most, files) in READ {

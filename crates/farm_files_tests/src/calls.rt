@@ -44,7 +44,7 @@ impl Calls {
         ])
     }
 
-    // Counts a call of the kind whose counts are from this one on. One of a fourth rack or feed is counted with the third.
+    /// Counts a call of the kind whose counts are from this one on. One of a fourth rack or feed is counted with the third.
     fn count(&self, first: usize, index: usize, number: u64) {
         let mut digit = 1u64;
         for _place in 0..number.min(18) {

@@ -62,7 +62,7 @@ pub(crate) const PLAIN: Case = Case {
     ends: &[],
 };
 
-// The shelves of a run, and what it gave.
+/// The shelves of a run, and what it gave.
 #[derive(Drop)]
 struct Run {
     served: Result<Served, ServeFault>,
@@ -89,7 +89,7 @@ fn run_of<R: Threads + Wait + Sync>(
     })
 }
 
-// The first of these files that the shelf hasn't, or with other bytes.
+/// The first of these files that the shelf hasn't, or with other bytes.
 fn first_other(shelf: &MemoryShelf, files: NamedFiles) -> Option<&'static str> {
     for (name, bytes) in files {
         if shelf.file(name) != Some(*bytes) {
@@ -99,7 +99,7 @@ fn first_other(shelf: &MemoryShelf, files: NamedFiles) -> Option<&'static str> {
     None
 }
 
-// What of a run isn't as at this end, if anything.
+/// What of a run isn't as at this end, if anything.
 fn difference(run: &Run, end: &End) -> Option<&'static str> {
     if run.served != end.served {
         return Some("what was served");
@@ -115,7 +115,7 @@ fn difference(run: &Run, end: &End) -> Option<&'static str> {
     first_other(&run.output, end.files)
 }
 
-// What of a run isn't as its case says, if anything.
+/// What of a run isn't as its case says, if anything.
 fn first_difference(run: &Run, case: &Case) -> Option<&'static str> {
     for files in case.input {
         if first_other(&run.input, files).is_some() {
@@ -132,7 +132,7 @@ fn first_difference(run: &Run, case: &Case) -> Option<&'static str> {
     found
 }
 
-// Asserts that a run gives what the case says.
+/// Asserts that a run gives what the case says.
 fn assert_run<R: Abort + Threads + Wait + Sync>(
     rt: &R,
     alloc: Global,

@@ -8,7 +8,7 @@ use std::alloc::{AllocError, Global};
 use std::sync::Wait;
 use std::thread::Threads;
 
-// The fragments that give the name of each stripe at x0.
+/// The fragments that give the name of each stripe at x0.
 const FRAGMENTS: NamedFiles = &[
     ("a.x1", &[0]),
     ("a.x2", &[0]),
@@ -31,7 +31,7 @@ const FEEDS: [&str; 4] = [
     "rack0.feed3.csv",
 ];
 
-// A rack whose feeds ask for the stripes of these names, in order; a dot is a close.
+/// A rack whose feeds ask for the stripes of these names, in order; a dot is a close.
 const RACKS: &[&[&str]] = &[
     // no close, and feeds of unequal length
     &["abcd", "a", ""],
@@ -46,7 +46,7 @@ const RACKS: &[&[&str]] = &[
     &["ab.cd", "abcd.a", "d"],
 ];
 
-// A shelf with the lists of these feeds.
+/// A shelf with the lists of these feeds.
 fn input_of(alloc: Global, feeds: &[&str]) -> Result<MemoryShelf, AllocError> {
     let mut input = shelf_of(alloc, &[FRAGMENTS])?;
     for (name, orders) in FEEDS.iter().zip(feeds.iter()) {
@@ -59,7 +59,7 @@ fn input_of(alloc: Global, feeds: &[&str]) -> Result<MemoryShelf, AllocError> {
     Ok(input)
 }
 
-// The line that asks for the stripe of this name, or closes.
+/// The line that asks for the stripe of this name, or closes.
 fn order_of(order: u8) -> &'static [u8] {
     match order {
         b'a' => b"rebuild,a,x0,1,x1 x2 px\n",
@@ -70,7 +70,7 @@ fn order_of(order: u8) -> &'static [u8] {
     }
 }
 
-// The names before a feed's close.
+/// The names before a feed's close.
 fn served(orders: &str) -> &[u8] {
     let bytes = orders.as_bytes();
     for index in 0..bytes.len() {
@@ -81,7 +81,7 @@ fn served(orders: &str) -> &[u8] {
     bytes
 }
 
-// How many answers a feed has, where they are those to its first requests, in order.
+/// How many answers a feed has, where they are those to its first requests, in order.
 fn answered_of(answers: &[(usize, Outcome)], feed: usize, orders: &[u8]) -> Option<usize> {
     let mut count = 0usize;
     for (of, outcome) in answers {
@@ -98,8 +98,8 @@ fn answered_of(answers: &[(usize, Outcome)], feed: usize, orders: &[u8]) -> Opti
     Some(count)
 }
 
-// Whether these are the answers to a lawful merge: the first requests of each feed before its close; of a feed with a close all of them,
-// where one has a close, and otherwise of every feed.
+/// Whether these are the answers to a lawful merge: the first requests of each feed before its close; of a feed with a close all of them,
+/// where one has a close, and otherwise of every feed.
 fn are_lawful(feeds: &[&str], answers: &[(usize, Outcome)]) -> bool {
     let mut all = true;
     let mut closes = false;
@@ -118,7 +118,7 @@ fn are_lawful(feeds: &[&str], answers: &[(usize, Outcome)]) -> bool {
     if closes { closed } else { all }
 }
 
-// Whether the one rack has each request before its own feed's close, and none of its survivors was left out.
+/// Whether the one rack has each request before its own feed's close, and none of its survivors was left out.
 fn are_read(feeds: &[&str], racks: &[Vec<Vec<ReadRequest>>]) -> bool {
     match racks {
         [requests] => {
@@ -141,7 +141,7 @@ fn are_read(feeds: &[&str], racks: &[Vec<Vec<ReadRequest>>]) -> bool {
     }
 }
 
-// How many answers the one rack has, if they are lawful, and all of its requests have their survivors.
+/// How many answers the one rack has, if they are lawful, and all of its requests have their survivors.
 fn count_whole(feeds: &[&str], answered: &Answered) -> Option<usize> {
     match answered.answers.as_slice() {
         [answers]
@@ -151,8 +151,8 @@ fn count_whole(feeds: &[&str], answered: &Answered) -> Option<usize> {
     }
 }
 
-// How many answers the one rack with these feeds gets, with so many workers and batches of so many bytes, where they are those to a lawful
-// merge.
+/// How many answers the one rack with these feeds gets, with so many workers and batches of so many bytes, where they are those to a lawful
+/// merge.
 fn merged<R: Threads + Wait + Sync, P: Pause>(
     rt: &R,
     alloc: Global,
@@ -194,7 +194,7 @@ fn feeds_in_any_batches_are_merged_up_to_a_close(rt: HostRuntime) {
     }
 }
 
-// A close that a piece ends is not passed: with batches of one position each, no other feed goes on past it by more than that position.
+/// A close that a piece ends is not passed: with batches of one position each, no other feed goes on past it by more than that position.
 #[test]
 fn no_piece_is_run_after_a_close(rt: HostRuntime) {
     let answers = merged(&rt, rt.alloc(), &["ab.", "abcdabcd"], (2, 0), &NoPause);
@@ -202,12 +202,12 @@ fn no_piece_is_run_after_a_close(rt: HostRuntime) {
     assert!(&rt; are, "neither four answers nor five: {answers:?}");
 }
 
-// Two feeds of four requests: the numbers 0 to 7, which both draw, and of each feed the positions 0 to 3.
+/// Two feeds of four requests: the numbers 0 to 7, which both draw, and of each feed the positions 0 to 3.
 const ALL_NUMBERS: [u64; 3] = [11_111_111, 0, 0];
 
 const ALL_POSITIONS: [u64; 3] = [1_111, 1_111, 0];
 
-// However a rack of two feeds is cut, a pause is given each number of the rack once, and each position of each feed.
+/// However a rack of two feeds is cut, a pause is given each number of the rack once, and each position of each feed.
 #[test]
 fn a_pause_is_given_the_numbers_of_both_feeds(rt: HostRuntime) {
     for most in MOST {

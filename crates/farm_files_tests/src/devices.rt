@@ -6,10 +6,10 @@ use farm_files::{ListFault, ServeFault, ShelfFault};
 use farm_lists_tests::samples::{LIST, REPORT, REPORT_WITHOUT_PX};
 use std::alloc::AllocError;
 
-// The list of rack 0.
+/// The list of rack 0.
 const LISTED: NamedFiles = &[("rack0.csv", LIST)];
 
-// And a list of rack 1 that is refused.
+/// And a list of rack 1 that is refused.
 const REFUSED: NamedFiles = &[("rack0.csv", LIST), ("rack1.csv", b"x")];
 
 const REPORT_WITHOUT_X1: &[u8] = b"number,stripe,target,length,outcome,digest,unread
@@ -20,14 +20,14 @@ const REPORT_WITHOUT_X2: &[u8] = b"number,stripe,target,length,outcome,digest,un
 0,abc,x0,3,several,,x2
 ";
 
-// The first 67 of the 135 bytes of the report, and the first 36 of the 73 of that without x1.
+/// The first 67 of the 135 bytes of the report, and the first 36 of the 73 of that without x1.
 const HALF_OF_REPORT: &[u8] =
     b"number,stripe,target,length,outcome,digest,unread\n0,abc,x0,3,rebuil";
 
 const HALF_WITHOUT_X1: &[u8] = b"number,stripe,target,length,outcome,";
 
-// A run makes six reads: of the list, of a second feed and of a second rack, which are absent, and of three fragments. It makes two writes.
-// They come out of a function since the proof of what names a long table itself takes longer.
+/// A run makes six reads: of the list, of a second feed and of a second rack, which are absent, and of three fragments. It makes two
+/// writes. They come out of a function since the proof of what names a long table itself takes longer.
 fn cases() -> &'static [Case; 12] {
     &CASES
 }

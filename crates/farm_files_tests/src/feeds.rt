@@ -9,10 +9,10 @@ use std::sync::Wait;
 use std::sync::atomic::{AtomicBool, Ordering};
 use std::thread::{self, Threads};
 
-// The list of rack 0.
+/// The list of rack 0.
 const LISTED: NamedFiles = &[("rack0.csv", LIST)];
 
-// The report where the first feed's request alone is answered. The digest is that of `abc` in FIPS 180-2.
+/// The report where the first feed's request alone is answered. The digest is that of `abc` in FIPS 180-2.
 const FED_REPORT: &[u8] = b"number,feed,stripe,target,length,outcome,digest,unread
 0,0,abc,x0,3,rebuilt,ba7816bf8f01cfea414140de5dae2223b00361a396177a9cb410ff61f20015ad,
 ";
@@ -22,15 +22,15 @@ const EMPTY_FED_REPORT: &[u8] = b"number,feed,stripe,target,length,outcome,diges
 const EMPTY_WIDE_FED_REPORT: &[u8] =
     b"number,feed,stripe,target,length,outcome,digest,unread,code\n";
 
-// A list of a close alone.
+/// A list of a close alone.
 const CLOSE: &[u8] = b"order,stripe,target,length,survivors\nclose,,,,\n";
 
-// One request of the (12,2,2) code.
+/// One request of the (12,2,2) code.
 const WIDE_LIST: &[u8] = b"order,stripe,target,length,survivors,code
 rebuild,abc,x0,3,x1 x2 x3 x4 x5 px,12-2-2
 ";
 
-// Two requests, of which the second's fragment isn't determined, and the report where a second feed alone has them.
+/// Two requests, of which the second's fragment isn't determined, and the report where a second feed alone has them.
 const TWO_REQUESTS: &[u8] = b"order,stripe,target,length,survivors
 rebuild,abc,x0,3,x1 x2 px
 rebuild,abc,y0,3,x1 x2 px
@@ -41,7 +41,7 @@ const REPORT_OF_TWO: &[u8] = b"number,feed,stripe,target,length,outcome,digest,u
 1,1,abc,y0,3,several,,
 ";
 
-// The reports where either feed is answered after the other, or the second alone.
+/// The reports where either feed is answered after the other, or the second alone.
 const SECOND: &[u8] = b"number,feed,stripe,target,length,outcome,digest,unread
 0,1,abc,x0,3,rebuilt,ba7816bf8f01cfea414140de5dae2223b00361a396177a9cb410ff61f20015ad,
 ";
@@ -56,25 +56,25 @@ const SECOND_THEN_FIRST: &[u8] = b"number,feed,stripe,target,length,outcome,dige
 1,0,abc,x0,3,rebuilt,ba7816bf8f01cfea414140de5dae2223b00361a396177a9cb410ff61f20015ad,
 ";
 
-// The lists of a rack whose second feed has no request.
+/// The lists of a rack whose second feed has no request.
 const WITH_A_FEED: NamedFiles = &[("rack0.csv", LIST), ("rack0.feed1.csv", HEADER)];
 
-// The fragments of the (12,2,2) code that give 61 62 63 at x0, beside those of the (6,2,2) code.
+/// The fragments of the (12,2,2) code that give 61 62 63 at x0, beside those of the (6,2,2) code.
 const WIDE_FRAGMENTS: NamedFiles = &[
     ("abc.x3", &[0, 0, 0]),
     ("abc.x4", &[0, 0, 0]),
     ("abc.x5", &[0, 0, 0]),
 ];
 
-// The same, of which x4 has no bytes.
+/// The same, of which x4 has no bytes.
 const WITHOUT_X4: NamedFiles = &[
     ("abc.x3", &[0, 0, 0]),
     ("abc.x4", b""),
     ("abc.x5", &[0, 0, 0]),
 ];
 
-// Racks of both codes: a list of the (12,2,2) code alone, after one without requests, and one of the (6,2,2) code; and a list whose
-// (12,2,2) request is after its close.
+/// Racks of both codes: a list of the (12,2,2) code alone, after one without requests, and one of the (6,2,2) code; and a list whose
+/// (12,2,2) request is after its close.
 const LISTS_OF_CODES: NamedFiles = &[
     ("rack0.csv", WIDE_LIST),
     ("rack1.csv", HEADER),
@@ -91,7 +91,7 @@ rebuild,abc,x0,3,x1 x2 x3 x4 x5 px,12-2-2
     ("rack3.feed1.csv", HEADER),
 ];
 
-// What is written for these.
+/// What is written for these.
 const FILES_OF_CODES: NamedFiles = &[
     (
         "rack0.report.csv",
@@ -112,7 +112,7 @@ const FILES_OF_CODES: NamedFiles = &[
     ("rack3-0.abc.x0", b"abc"),
 ];
 
-// The lists of a rack with a feed of either code, without a close.
+/// The lists of a rack with a feed of either code, without a close.
 const EITHER_CODE: NamedFiles = &[
     (
         "rack0.csv",
@@ -121,7 +121,7 @@ const EITHER_CODE: NamedFiles = &[
     ("rack0.feed1.csv", WIDE_LIST),
 ];
 
-// The reports on it, and where a fragment that only the (12,2,2) request lists is absent.
+/// The reports on it, and where a fragment that only the (12,2,2) request lists is absent.
 const NARROW_FIRST: &[u8] = b"number,feed,stripe,target,length,outcome,digest,unread,code
 0,0,abc,x0,3,rebuilt,ba7816bf8f01cfea414140de5dae2223b00361a396177a9cb410ff61f20015ad,,6-2-2
 1,1,abc,x0,3,rebuilt,ba7816bf8f01cfea414140de5dae2223b00361a396177a9cb410ff61f20015ad,,12-2-2
@@ -142,7 +142,7 @@ const WIDE_FIRST_WITHOUT_X4: &[u8] = b"number,feed,stripe,target,length,outcome,
 1,0,abc,x0,3,rebuilt,ba7816bf8f01cfea414140de5dae2223b00361a396177a9cb410ff61f20015ad,,6-2-2
 ";
 
-// They come out of functions since the proof of what names a long table itself takes longer.
+/// They come out of functions since the proof of what names a long table itself takes longer.
 fn cases() -> &'static [Case; 5] {
     &CASES
 }
@@ -498,7 +498,7 @@ fn feeds_give_their_files(rt: HostRuntime) {
     assert_cases(&rt, rt.alloc(), of_codes());
 }
 
-// Holds the feeder of the second feed ahead of its first order until that of the first has passed its own.
+/// Holds the feeder of the second feed ahead of its first order until that of the first has passed its own.
 #[derive(Drop)]
 struct FirstCloses {
     behind: AtomicBool,
@@ -530,7 +530,7 @@ impl Pause for FirstCloses {
     }
 }
 
-// Whether no request is answered of a rack whose first feed closes it ahead of the second, which has this list, and the report is this.
+/// Whether no request is answered of a rack whose first feed closes it ahead of the second, which has this list, and the report is this.
 fn is_closed_by_first<R: Threads + Wait + Sync>(
     rt: &R,
     alloc: Global,
@@ -549,7 +549,7 @@ fn is_closed_by_first<R: Threads + Wait + Sync>(
     Ok(served == Ok(none) && output.file("rack0.report.csv") == Some(report))
 }
 
-// The second feed's list, and the report. A request that is left without an answer still says that its rack has codes.
+/// The second feed's list, and the report. A request that is left without an answer still says that its rack has codes.
 const CLOSED: &[(&[u8], &[u8])] = &[(LIST, EMPTY_FED_REPORT), (WIDE_LIST, EMPTY_WIDE_FED_REPORT)];
 
 #[test]

@@ -112,7 +112,7 @@ const IN_INPUT: &[Step] = &[Step::Read("rack0.report.csv", 1000, Ok(None))];
 
 const IN_OUTPUT: &[Step] = &[Step::Read("rack0.report.csv", 1000, Ok(Some(REPORT)))];
 
-// Whether the one folder was served into the other.
+/// Whether the one folder was served into the other.
 fn is_served<R: Files + Threads + Wait + Sync>(
     rt: &R,
     system: &HostRuntime,
@@ -125,7 +125,7 @@ fn is_served<R: Files + Threads + Wait + Sync>(
         && serve_folders(rt, system, alloc, "ordered/in", "ordered/out", settings) == ONE
 }
 
-// The first folder is read and the second written, whatever is in them.
+/// The first folder is read and the second written, whatever is in them.
 #[test]
 fn the_first_folder_is_read_and_the_second_written(rt: HostRuntime) -> Result<(), AllocError> {
     let alloc = rt.alloc();
@@ -137,7 +137,7 @@ fn the_first_folder_is_read_and_the_second_written(rt: HostRuntime) -> Result<()
     Ok(())
 }
 
-// Whether a shelf reads so many bytes at most of a file as these.
+/// Whether a shelf reads so many bytes at most of a file as these.
 fn is_read<S: Shelf>(shelf: &mut S, alloc: Global, limit: usize, bytes: &[u8]) -> bool {
     match read(shelf, alloc, "a", limit) {
         Ok(Some(read)) => read.as_slice() == bytes,
@@ -145,7 +145,7 @@ fn is_read<S: Shelf>(shelf: &mut S, alloc: Global, limit: usize, bytes: &[u8]) -
     }
 }
 
-// Whether a folder's shelf gives a whole file that was written by it, and its first bytes up to a limit.
+/// Whether a folder's shelf gives a whole file that was written by it, and its first bytes up to a limit.
 fn is_given_back<R: Files + Clone + Drop>(
     rt: &R,
     alloc: Global,
@@ -168,7 +168,8 @@ fn many_bytes(alloc: Global) -> Result<Vec<u8>, AllocError> {
     Ok(bytes)
 }
 
-// A file of more bytes than a fragment or a block of the system's has is written whole, and a shorter one in its place leaves none of them.
+/// A file of more bytes than a fragment or a block of the system's has is written whole, and a shorter one in its place leaves none of
+/// them.
 #[test]
 fn a_long_file_is_written_whole(rt: HostRuntime) -> Result<(), AllocError> {
     assert!(&rt; fs::create_dir_all(&rt, "long").is_ok());
@@ -183,7 +184,7 @@ fn a_long_file_is_written_whole(rt: HostRuntime) -> Result<(), AllocError> {
     Ok(())
 }
 
-// A reader that gives so many bytes, at most so many a call, and counts its calls.
+/// A reader that gives so many bytes, at most so many a call, and counts its calls.
 #[derive(Drop)]
 struct Drip<'a> {
     left: usize,
@@ -200,7 +201,7 @@ impl<'a> Read for Drip<'a> {
     }
 }
 
-// How many bytes are read of so many, up to a limit, and in how many calls.
+/// How many bytes are read of so many, up to a limit, and in how many calls.
 fn read_drip(
     alloc: Global,
     left: usize,
@@ -220,10 +221,10 @@ fn read_drip(
     (read, calls.load(Ordering::SeqCst))
 }
 
-// How many bytes a file gives, how many of them in a call at most, and the limit; then how many are read, and in how many calls.
+/// How many bytes a file gives, how many of them in a call at most, and the limit; then how many are read, and in how many calls.
 type Drips = (usize, usize, usize, Result<usize, ShelfFault>, u64);
 
-// A fragment takes two reads, and one that is longer than listed takes one. A list that outgrows the first room is read on.
+/// A fragment takes two reads, and one that is longer than listed takes one. A list that outgrows the first room is read on.
 const DRIPS: &[Drips] = &[
     (65_536, 65_537, 65_537, Ok(65_536), 2),
     (1, 65_537, 2, Ok(1), 2),
@@ -233,7 +234,7 @@ const DRIPS: &[Drips] = &[
     (1_048_577, 1_048_577, 1_048_577, Ok(1_048_577), 5),
 ];
 
-// A file that gives one byte at a time is read 16,777,216 times and no more. It is a failure only if more are needed.
+/// A file that gives one byte at a time is read 16,777,216 times and no more. It is a failure only if more are needed.
 const SINGLE_BYTES: &[Drips] = &[
     (16_777_215, 1, usize::MAX, Ok(16_777_215), 16_777_216),
     (16_777_217, 1, 16_777_216, Ok(16_777_216), 16_777_216),
@@ -246,7 +247,7 @@ const SINGLE_BYTES: &[Drips] = &[
     ),
 ];
 
-// Asserts that files are read so.
+/// Asserts that files are read so.
 fn assert_drips(rt: &impl Abort, alloc: Global, drips: &[Drips]) {
     for (left, step, limit, read, calls) in drips {
         let found = read_drip(alloc, *left, *step, *limit);
@@ -267,7 +268,7 @@ fn reads_of_single_bytes_end_at_a_limit(rt: HostRuntime) {
     assert_drips(&rt, rt.alloc(), SINGLE_BYTES);
 }
 
-// A reader that gives three bytes, one a call, and whose call of one number fails with an error of this kind.
+/// A reader that gives three bytes, one a call, and whose call of one number fails with an error of this kind.
 #[derive(Drop)]
 struct Failing {
     given: u8,
@@ -292,7 +293,7 @@ impl Read for Failing {
     }
 }
 
-// Whether what is read of three bytes is this, where a call fails.
+/// Whether what is read of three bytes is this, where a call fails.
 fn is_front(
     alloc: Global,
     fails_at: u64,
@@ -312,7 +313,7 @@ fn is_front(
     }
 }
 
-// What is read where a call fails, by the kind of its error: a read that is interrupted is made again; any other failed read is a fault.
+/// What is read where a call fails, by the kind of its error: a read that is interrupted is made again; any other failed read is a fault.
 const KINDS: &[(ErrorKind, Result<&[u8], ShelfFault>)] = &[
     (ErrorKind::Interrupted, Ok(&[1, 2, 3])),
     (ErrorKind::OutOfMemory, Err(ShelfFault::OutOfMemory)),

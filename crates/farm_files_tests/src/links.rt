@@ -4,16 +4,16 @@ use farm_files::{ServeFault, Served, ShelfFault};
 use farm_lists_tests::samples::LIST;
 use std::alloc::AllocError;
 
-// What reads of the links give: there is something that is no regular file or can't be reached, there is nothing, or there is a file of
-// which two bytes are read.
+/// What reads of the links give: there is something that is no regular file or can't be reached, there is nothing, or there is a file of
+/// which two bytes are read.
 const FAILS: Given = Err(ShelfFault::Device);
 
 const ABSENT: Given = Ok(None);
 
 const THERE: Given = Ok(Some(b"ab"));
 
-// All names of a folder with a file `there`, a folder `folder`, and links to both, to nothing and to each other, and one name that it
-// hasn't.
+/// All names of a folder with a file `there`, a folder `folder`, and links to both, to nothing and to each other, and one name that it
+/// hasn't.
 const NAMES: Names = &[
     ("there", 2),
     ("folder", 2),
@@ -27,8 +27,8 @@ const NAMES: Names = &[
     ("to-device", 2),
 ];
 
-// A file is absent only where nothing is found under its name. Links are followed, and what is no regular file isn't read. A write goes to
-// a regular file, also by a link, or makes one where a link leads to nothing. Anything else is left alone.
+/// A file is absent only where nothing is found under its name. Links are followed, and what is no regular file isn't read. A write goes to
+/// a regular file, also by a link, or makes one where a link leads to nothing. Anything else is left alone.
 const SCRIPTS: &[Script] = &[
     Script {
         name: "links are followed to regular files alone",
@@ -106,7 +106,7 @@ const SCRIPTS: &[Script] = &[
     },
 ];
 
-// Each name is read as it must be, too, where all of them are read ahead first, and where the reads after that have other limits.
+/// Each name is read as it must be, too, where all of them are read ahead first, and where the reads after that have other limits.
 const AHEAD: &[Script] = &[
     Script {
         name: "links are read ahead as they are read",
@@ -184,7 +184,7 @@ const AHEAD: &[Script] = &[
     },
 ];
 
-// Lists that can't be read end the work, wherever they are. Racks that follow an absent list are not served.
+/// Lists that can't be read end the work, wherever they are. Racks that follow an absent list are not served.
 const LISTS: &[Script] = &[
     Script {
         name: "a list that is a link to one is served, and one that leads to nothing is absent",

@@ -4,16 +4,16 @@ use crate::shared::{HEADER, NamedFiles};
 use farm_files::{ListFault, ServeFault, Served};
 use farm_lists_tests::samples::EMPTY_REPORT;
 
-// The list of the first rack.
+/// The list of the first rack.
 const RACK_0: NamedFiles = &[("rack0.csv", HEADER)];
 
-// Those of the next two.
+/// Those of the next two.
 const RACKS_1_AND_2: NamedFiles = &[("rack1.csv", HEADER), ("rack2.csv", HEADER)];
 
-// That of the fourth rack.
+/// That of the fourth rack.
 const RACK_3: NamedFiles = &[("rack3.csv", HEADER)];
 
-// Those of all further racks that there may be.
+/// Those of all further racks that there may be.
 const RACKS_4_TO_15: NamedFiles = &[
     ("rack4.csv", HEADER),
     ("rack5.csv", HEADER),
@@ -29,10 +29,10 @@ const RACKS_4_TO_15: NamedFiles = &[
     ("rack15.csv", HEADER),
 ];
 
-// That of a rack too many.
+/// That of a rack too many.
 const RACK_16: NamedFiles = &[("rack16.csv", HEADER)];
 
-// The lists of the second to fourth feeds of all racks that there may be.
+/// The lists of the second to fourth feeds of all racks that there may be.
 const FEEDS: NamedFiles = &[
     ("rack0.feed1.csv", HEADER),
     ("rack0.feed2.csv", HEADER),
@@ -84,7 +84,7 @@ const FEEDS: NamedFiles = &[
     ("rack15.feed3.csv", HEADER),
 ];
 
-// The reports on all racks that there may be.
+/// The reports on all racks that there may be.
 const REPORTS: NamedFiles = &[
     ("rack0.report.csv", EMPTY_REPORT),
     ("rack1.report.csv", EMPTY_REPORT),
@@ -106,7 +106,7 @@ const REPORTS: NamedFiles = &[
 
 const EMPTY_FED_REPORT: &[u8] = b"number,feed,stripe,target,length,outcome,digest,unread\n";
 
-// They come out of functions since the proof of what names a long table itself takes longer.
+/// They come out of functions since the proof of what names a long table itself takes longer.
 fn cases() -> &'static [Case; 4] {
     &CASES
 }

@@ -8,14 +8,14 @@ use std::alloc::{AllocError, Global};
 use std::sync::Wait;
 use std::thread::Threads;
 
-// Two racks of one rebuilt fragment each, the second with a feed without requests.
+/// Two racks of one rebuilt fragment each, the second with a feed without requests.
 const RACKS: NamedFiles = &[
     ("rack0.csv", LIST),
     ("rack1.csv", LIST),
     ("rack1.feed1.csv", b"order,stripe,target,length,survivors\n"),
 ];
 
-// What serving these gives, and how many files are written.
+/// What serving these gives, and how many files are written.
 fn served_and_written<R: Threads + Wait + Sync>(
     rt: &R,
     alloc: Global,
@@ -27,8 +27,8 @@ fn served_and_written<R: Threads + Wait + Sync>(
     Ok((served, output.writes))
 }
 
-// Whether all files are written where it is served. In a run that refuses an allocation or a thread this ends with the refusal, and then
-// nothing was written.
+/// Whether all files are written where it is served. In a run that refuses an allocation or a thread this ends with the refusal, and then
+/// nothing was written.
 fn is_all_or_nothing<R: Threads + Wait + Sync>(
     rt: &R,
     alloc: Global,
@@ -47,19 +47,19 @@ fn nothing_written_before_all_texts_are_made(rt: HostRuntime) -> Result<(), Allo
     Ok(())
 }
 
-// Of two workers either may be refused memory.
+/// Of two workers either may be refused memory.
 #[test]
 fn nothing_written_with_two_workers(rt: HostRuntime) -> Result<(), AllocError> {
     assert!(&rt; is_all_or_nothing(&rt, rt.alloc(), 2)?);
     Ok(())
 }
 
-// Whether the shelf has this file, and its device failed so often.
+/// Whether the shelf has this file, and its device failed so often.
 fn is_left(shelf: &MemoryShelf, bytes: &[u8], failures: u64) -> bool {
     shelf.file("a") == Some(bytes) && shelf.failures() == failures
 }
 
-// Whether a write that the device fails leaves the first half of its bytes; where memory is refused for these it changes nothing.
+/// Whether a write that the device fails leaves the first half of its bytes; where memory is refused for these it changes nothing.
 fn is_half_written(alloc: Global) -> Result<bool, AllocError> {
     let mut shelf = shelf_of(alloc, &[&[("a", b"kept")]])?;
     shelf.fail_at(0);

@@ -81,7 +81,7 @@ pub(crate) fn bytes_of(number: usize) -> &'static [u8] {
     }
 }
 
-// What a read of the file of a number gives, up to four bytes.
+/// What a read of the file of a number gives, up to four bytes.
 fn front_of(number: usize) -> Option<&'static [u8]> {
     if number % 10 == 7 {
         return None;
@@ -102,7 +102,7 @@ pub(crate) fn numbers(
     Ok(names)
 }
 
-// These names, each with its limit.
+/// These names, each with its limit.
 fn named(alloc: Global, names: Names) -> Result<Vec<FileRead>, AllocError> {
     let mut named = Vec::new(alloc);
     for (name, limit) in names {
@@ -131,7 +131,7 @@ pub(crate) fn is_put<R: Files>(rt: &R, found: &Found) -> bool {
     true
 }
 
-// Whether a read gives this.
+/// Whether a read gives this.
 fn is_given<S: Shelf>(
     shelf: &mut S,
     alloc: Global,
@@ -163,7 +163,7 @@ pub(crate) fn are_given<S: Shelf>(
     Ok(true)
 }
 
-// Work that fails at its first call, as where it is refused a thread, and then gives how often it was called.
+/// Work that fails at its first call, as where it is refused a thread, and then gives how often it was called.
 fn fails_once(calls: &AtomicU64) -> Result<u64, AllocError> {
     match calls.fetch_add(1, Ordering::SeqCst) {
         0 => Err(AllocError),
@@ -171,7 +171,7 @@ fn fails_once(calls: &AtomicU64) -> Result<u64, AllocError> {
     }
 }
 
-// What such work gives that was called so often, where these files are read beside it, and how often it was called then.
+/// What such work gives that was called so often, where these files are read beside it, and how often it was called then.
 fn beside<R: Threads + Sync, S: Shelf>(
     rt: &R,
     alloc: Global,
@@ -186,7 +186,7 @@ fn beside<R: Threads + Sync, S: Shelf>(
     Ok((gives, calls.load(Ordering::SeqCst)))
 }
 
-// What serving one folder into another gives, with one worker and a queue of one, and how often each device failed.
+/// What serving one folder into another gives, with one worker and a queue of one, and how often each device failed.
 fn served_between<R: Files + Threads + Wait + Sync + Clone + Drop>(
     rt: &R,
     alloc: Global,
@@ -199,7 +199,7 @@ fn served_between<R: Files + Threads + Wait + Sync + Clone + Drop>(
     Ok((served, (input.failures(), output.failures())))
 }
 
-// Whether a step gives what it has to.
+/// Whether a step gives what it has to.
 fn goes<R: Files + Threads + Wait + Sync + Clone + Drop, S: Shelf>(
     rt: &R,
     alloc: Global,

@@ -9,7 +9,7 @@ use std::alloc::{AllocError, Global};
 use std::sync::Wait;
 use std::thread::Threads;
 
-// The list with a byte order mark, and a carriage return before each line feed.
+/// The list with a byte order mark, and a carriage return before each line feed.
 const MARKED: &[u8] = b"\xef\xbb\xbforder,stripe,target,length,survivors\r
 rebuild,abc,x0,3,x1 x2 px\r
 close,,,,\r
@@ -17,14 +17,14 @@ rebuild,abc,x0,3,x1 x2 px\r
 close,,,,\r
 ";
 
-// The list and two of its survivors.
+/// The list and two of its survivors.
 const WITHOUT_PX: NamedFiles = &[
     ("rack0.csv", LIST),
     ("abc.x1", &[0, 0, 0]),
     ("abc.x2", &[0, 0, 0]),
 ];
 
-// What is written where px is left out.
+/// What is written where px is left out.
 const PX_LEFT_OUT: &[End] = &[End {
     served: ONE,
     files: &[("rack0.report.csv", REPORT_WITHOUT_PX)],
@@ -32,7 +32,7 @@ const PX_LEFT_OUT: &[End] = &[End {
     ..NOTHING
 }];
 
-// Contradictions and requests of several racks, and what is written for them; the digest is that of the byte 01.
+/// Contradictions and requests of several racks, and what is written for them; the digest is that of the byte 01.
 const RACKS: NamedFiles = &[
     (
         "rack0.csv",
@@ -64,8 +64,8 @@ const FILES_OF_RACKS: NamedFiles = &[
     ),
 ];
 
-// Three racks, of which one has no request, over stripes of one byte whose x0 is the byte of their name; the digests of these are by
-// another program.
+/// Three racks, of which one has no request, over stripes of one byte whose x0 is the byte of their name; the digests of these are by
+/// another program.
 const FIVE_STRIPES: NamedFiles = &[
     (
         "rack0.csv",
@@ -122,10 +122,10 @@ const FILES_OF_STRIPES: NamedFiles = &[
     ("rack2-2.e.x0", b"e"),
 ];
 
-// Where a list is refused nothing is written.
+/// Where a list is refused nothing is written.
 const UNTOUCHED: &[&str] = &["rack0-0.abc.x0", "rack0.report.csv", "rack1.report.csv"];
 
-// They come out of a function since the proof of what names a long table itself takes longer.
+/// They come out of a function since the proof of what names a long table itself takes longer.
 fn cases() -> &'static [Case; 12] {
     &CASES
 }
@@ -290,7 +290,7 @@ fn lists_give_their_files(rt: HostRuntime) {
     assert_cases(&rt, rt.alloc(), cases());
 }
 
-// Serves two racks with a pause, and gives what was served.
+/// Serves two racks with a pause, and gives what was served.
 fn served_with<R: Threads + Wait + Sync>(
     rt: &R,
     alloc: Global,
@@ -304,7 +304,7 @@ fn served_with<R: Threads + Wait + Sync>(
     Ok(serve_with(rt, alloc, (2, 1), &mut input, &mut output, pause))
 }
 
-// The farm is given the pause that serving is given. The requests after each close aren't solved.
+/// The farm is given the pause that serving is given. The requests after each close aren't solved.
 #[test]
 fn the_pause_is_handed_on(rt: HostRuntime) {
     let calls = Calls::new();

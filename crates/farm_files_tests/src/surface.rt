@@ -12,7 +12,7 @@ use std::rt::Files;
 use std::sync::Wait;
 use std::thread::Threads;
 
-// The number of a list's fault.
+/// The number of a list's fault.
 fn number_of_list_fault(fault: ListFault) -> u8 {
     match fault {
         ListFault::OutOfMemory => 16,
@@ -27,7 +27,7 @@ fn number_of_list_fault(fault: ListFault) -> u8 {
     }
 }
 
-// The number of a fault of serving.
+/// The number of a fault of serving.
 fn number_of_fault(fault: ServeFault) -> u8 {
     match fault {
         ServeFault::List {
@@ -44,7 +44,7 @@ fn number_of_fault(fault: ServeFault) -> u8 {
     }
 }
 
-// The number of a shelf's fault.
+/// The number of a shelf's fault.
 fn number_of_shelf_fault(fault: ShelfFault) -> u8 {
     match fault {
         ShelfFault::Device => 24,
@@ -52,7 +52,7 @@ fn number_of_shelf_fault(fault: ShelfFault) -> u8 {
     }
 }
 
-// What the first record of a list asks for.
+/// What the first record of a list asks for.
 fn first_listed(list: &[Record]) -> Option<&Listed> {
     match list {
         [Record::Rebuild(listed), ..] => Some(listed),
@@ -68,7 +68,7 @@ fn is_as_listed(listed: &Listed) -> bool {
         && listed.survivors() == [Place::X1, Place::X2, Place::Px].as_slice()
 }
 
-// The report on a list's only request, whose fragment is rebuilt.
+/// The report on a list's only request, whose fragment is rebuilt.
 fn report_on(alloc: Global, listed: &Listed, outcome: &Outcome) -> Result<Vec<u8>, AllocError> {
     let row = ReportRow {
         feed: 0,
@@ -83,7 +83,7 @@ fn report_on(alloc: Global, listed: &Listed, outcome: &Outcome) -> Result<Vec<u8
     merged_report_text(alloc, shape, &[row])
 }
 
-// The same by the call for a whole list; none where it has more requests or fewer.
+/// The same by the call for a whole list; none where it has more requests or fewer.
 fn report_on_list(
     alloc: Global,
     list: &[Record],
@@ -96,7 +96,7 @@ fn report_on_list(
     Ok(Some(text))
 }
 
-// Whether either call gives the report on a list's only request.
+/// Whether either call gives the report on a list's only request.
 fn is_reported(alloc: Global, list: &[Record]) -> Result<bool, AllocError> {
     let Some(listed) = first_listed(list) else {
         return Ok(false);
@@ -121,7 +121,7 @@ fn lists_and_reports_are_at_this_crate(rt: HostRuntime) {
     assert!(&rt; is_read_and_reported(rt.alloc()) == Ok(true));
 }
 
-// Serves one shelf into another, and gives the number of the fault.
+/// Serves one shelf into another, and gives the number of the fault.
 fn fault_of_serving<R: Threads + Wait + Sync, I: Shelf, O: Shelf>(
     rt: &R,
     alloc: Global,
@@ -139,7 +139,7 @@ fn fault_of_serving<R: Threads + Wait + Sync, I: Shelf, O: Shelf>(
     }
 }
 
-// The number of a fault of writing.
+/// The number of a fault of writing.
 fn fault_of_writing<O: Shelf>(alloc: Global, output: &mut O) -> Option<u8> {
     match written(output, alloc, "a", b"x") {
         Ok(()) => None,
@@ -147,7 +147,7 @@ fn fault_of_writing<O: Shelf>(alloc: Global, output: &mut O) -> Option<u8> {
     }
 }
 
-// Whether a folder that isn't there, and a shelf in memory of which the first read fails, give the fault of a device.
+/// Whether a folder that isn't there, and a shelf in memory of which the first read fails, give the fault of a device.
 fn are_failing<R: Files + Threads + Wait + Sync + Clone + Drop>(
     rt: &R,
     alloc: Global,

@@ -27,7 +27,7 @@ impl Named {
         }
     }
 
-    // Keeps the files of a call, in place of those of the call before it, unless it names none.
+    /// Keeps the files of a call, in place of those of the call before it, unless it names none.
     fn keep(&mut self, files: Vec<FileRead>) {
         if !files.is_empty() {
             self.files = files;
@@ -35,7 +35,7 @@ impl Named {
         }
     }
 
-    // Counts a read, if it is of the file that was named next.
+    /// Counts a read, if it is of the file that was named next.
     fn count(&mut self, name: &str, limit: usize) {
         if let Some((named, most)) = self.files.get(self.next) {
             if named.as_str() == name && *most == limit {

@@ -8,7 +8,7 @@ use std::alloc::{AllocError, Global};
 use std::test::Fail;
 use std::thread::{Threads, join};
 
-// A gate with one seat and one right.
+/// A gate with one seat and one right.
 #[derive(Drop)]
 struct Alone {
     gate: Gate,
@@ -29,7 +29,7 @@ fn open_alone(alloc: Global) -> Result<Alone, GateError>
     Ok(Alone { gate, seat, right })
 }
 
-// A draw that found the gate closed is counted in the budget.
+/// A draw that found the gate closed is counted in the budget.
 #[test]
 fn counts_the_refused_draw(rt: HostRuntime) -> Result<(), Fail> {
     let Alone {
@@ -46,7 +46,7 @@ fn counts_the_refused_draw(rt: HostRuntime) -> Result<(), Fail> {
     Ok(())
 }
 
-// A seat that was given nothing is refused, and nothing changes.
+/// A seat that was given nothing is refused, and nothing changes.
 #[test]
 fn refuses_a_seat_without_budget(rt: HostRuntime) -> Result<(), Fail> {
     let Alone {
@@ -63,7 +63,7 @@ fn refuses_a_seat_without_budget(rt: HostRuntime) -> Result<(), Fail> {
     Ok(())
 }
 
-// A seat that is cut in two keeps what the other isn't given.
+/// A seat that is cut in two keeps what the other isn't given.
 #[test]
 fn splits_the_budget(rt: HostRuntime) -> Result<(), Fail> {
     let Alone {
@@ -78,7 +78,7 @@ fn splits_the_budget(rt: HostRuntime) -> Result<(), Fail> {
     Ok(())
 }
 
-// Only the first of two closes says how many numbers were given.
+/// Only the first of two closes says how many numbers were given.
 #[test]
 fn closes_once(rt: HostRuntime) -> Result<(), Fail> {
     let (gate, mut seats, mut rights) = Gate::open(rt.alloc(), 1, 2)?;
@@ -98,10 +98,10 @@ fn closes_once(rt: HostRuntime) -> Result<(), Fail> {
     Ok(())
 }
 
-// Numbers of seats and of rights of which one is out of its limits.
+/// Numbers of seats and of rights of which one is out of its limits.
 const BEYOND: &[(usize, usize)] = &[(0, 1), (17, 1), (1, 0), (1, 17), (0, 17)];
 
-// The draws are shared out evenly over the seats.
+/// The draws are shared out evenly over the seats.
 #[test]
 fn opens_within_the_limits(rt: HostRuntime) -> Result<(), Fail> {
     let alloc: Global = rt.alloc();
@@ -120,14 +120,14 @@ fn opens_within_the_limits(rt: HostRuntime) -> Result<(), Fail> {
     Ok(())
 }
 
-// A seat, and the numbers that were drawn at it.
+/// A seat, and the numbers that were drawn at it.
 #[derive(Drop)]
 struct Drawn {
     seat: Seat,
     numbers: Vec<u64>,
 }
 
-// Draws so many times, or until the gate is closed.
+/// Draws so many times, or until the gate is closed.
 fn draw_many(alloc: Global, gate: &Gate, mut seat: Seat, times: u32) -> Result<Drawn, AllocError>
     requires { seat.gate ≡ gate.now.id }
     ensures { IfOk result (λ d. d.seat.gate ≡ seat.gate) }
@@ -142,7 +142,7 @@ fn draw_many(alloc: Global, gate: &Gate, mut seat: Seat, times: u32) -> Result<D
     Ok(Drawn { seat, numbers })
 }
 
-// Two threads that draw.
+/// Two threads that draw.
 fn draw_by_two<R: Threads + Sync>(
     rt: &R,
     alloc: Global,
@@ -168,7 +168,7 @@ fn draw_by_two<R: Threads + Sync>(
     Ok((one?, other?))
 }
 
-// A gate with four seats and one right.
+/// A gate with four seats and one right.
 #[derive(Drop)]
 struct Four {
     gate: Gate,
@@ -203,7 +203,7 @@ fn open_four(alloc: Global) -> Result<Four, GateError>
     })
 }
 
-// All numbers of four seats, from the least to the greatest.
+/// All numbers of four seats, from the least to the greatest.
 fn sorted(
     alloc: Global,
     first: &[u64],
@@ -229,8 +229,8 @@ pub(crate) fn count_up(numbers: &[u64]) -> bool {
     true
 }
 
-// Four threads with 1,000 draws each, the seats joined, and then the close: the state of the seat, the close's answer, and a draw
-// after it.
+/// Four threads with 1,000 draws each, the seats joined, and then the close: the state of the seat, the close's answer, and a draw
+/// after it.
 #[derive(Drop)]
 struct FourDrawn {
     numbers: Vec<u64>,
@@ -286,7 +286,7 @@ fn draw_by_four<R: Threads + Sync>(
     })
 }
 
-// Four threads draw each number below 4,000 once.
+/// Four threads draw each number below 4,000 once.
 #[test]
 fn draws_each_number_once(rt: HostRuntime) -> Result<(), Fail> {
     let alloc: Global = rt.alloc();
@@ -302,8 +302,8 @@ fn draws_each_number_once(rt: HostRuntime) -> Result<(), Fail> {
     Ok(())
 }
 
-// The numbers of three threads that draw until the gate is closed and of a fourth that draws ten times and closes it, and the
-// close's answer.
+/// The numbers of three threads that draw until the gate is closed and of a fourth that draws ten times and closes it, and the
+/// close's answer.
 fn draw_until_closed<R: Threads + Sync>(
     rt: &R,
     alloc: Global,
@@ -337,7 +337,7 @@ fn draw_until_closed<R: Threads + Sync>(
     Ok((numbers, closed))
 }
 
-// One thread that draws until the gate is closed, and one that draws ten times and closes it.
+/// One thread that draws until the gate is closed, and one that draws ten times and closes it.
 fn draw_and_close<R: Threads + Sync>(
     rt: &R,
     alloc: Global,
@@ -375,7 +375,7 @@ fn draw_ten_and_close(
     Ok((drawn, answer))
 }
 
-// The numbers that were given are those below the close's answer.
+/// The numbers that were given are those below the close's answer.
 #[test]
 fn gives_the_numbers_below_the_closes_answer(rt: HostRuntime) -> Result<(), Fail> {
     let alloc: Global = rt.alloc();
@@ -386,8 +386,8 @@ fn gives_the_numbers_below_the_closes_answer(rt: HostRuntime) -> Result<(), Fail
     Ok(())
 }
 
-// Where the gate's room is refused, that is said, and nothing else. The heap grows by steps
-// smaller than any allocation, so that each allocation in turn is the one that is refused.
+/// Where the gate's room is refused, that is said, and nothing else. The heap grows by steps
+/// smaller than any allocation, so that each allocation in turn is the one that is refused.
 #[test]
 fn refused_memory_is_said(rt: HostRuntime) -> Result<(), Fail> {
     let alloc: Global = rt.alloc();

@@ -13,7 +13,7 @@ use std::test::Fail;
 use std::thread;
 use std::thread::{Promise, Threads, join};
 
-// An item's sender, its number and its value, of which an end mark has none.
+/// An item's sender, its number and its value, of which an end mark has none.
 type Shown = (u32, u64, Option<u64>);
 
 fn shown(item: Item<u64>) -> Shown {
@@ -27,7 +27,7 @@ fn shown(item: Item<u64>) -> Shown {
     }
 }
 
-// A lane with one end of each kind.
+/// A lane with one end of each kind.
 fn pair<T: Send + Drop>(
     alloc: Global,
     capacity: usize,
@@ -45,7 +45,7 @@ fn pair<T: Send + Drop>(
     Ok((put, take))
 }
 
-// How many items were put into such a lane, and how many were taken.
+/// How many items were put into such a lane, and how many were taken.
 fn settle_pair<T: Drop>(
     alloc: Global,
     ended: EndedPut<T>,
@@ -59,14 +59,14 @@ fn settle_pair<T: Drop>(
     Ok((settled.put, settled.taken))
 }
 
-// A taker's end, and three items that it took.
+/// A taker's end, and three items that it took.
 #[derive(Drop)]
 struct ThreeTaken {
     end: TakeEnd<u64>,
     items: [Shown; 3],
 }
 
-// The end that a taker was given.
+/// The end that a taker was given.
 #[derive(Drop)]
 struct TakesBy(Snapshot<TakeEnd<u64>>);
 
@@ -87,7 +87,7 @@ fn take_three<R: Wait>(rt: &R, mut end: TakeEnd<u64>, done: &AtomicBool) -> Thre
     }
 }
 
-// Whether it is set within a million turns.
+/// Whether it is set within a million turns.
 fn is_set_in_time(done: &AtomicBool) -> bool {
     for _ in 0..1_000_000u32 {
         if done.load(Ordering::SeqCst) {
@@ -98,7 +98,7 @@ fn is_set_in_time(done: &AtomicBool) -> bool {
     done.load(Ordering::SeqCst)
 }
 
-// What was put is taken in another thread, within a bounded number of turns.
+/// What was put is taken in another thread, within a bounded number of turns.
 #[test]
 fn takes_in_another_thread_what_was_put(rt: HostRuntime) -> Result<(), Fail> {
     let alloc: Global = rt.alloc();
@@ -126,7 +126,7 @@ fn takes_in_another_thread_what_was_put(rt: HostRuntime) -> Result<(), Fail> {
     Ok(())
 }
 
-// Capacities and numbers of putting and of taking ends, with what they are refused as.
+/// Capacities and numbers of putting and of taking ends, with what they are refused as.
 const LIMITS: &[(usize, usize, usize, Option<LaneError>)] = &[
     (0, 1, 1, Some(LaneError::NoRoom)),
     (1025, 1, 1, Some(LaneError::NoRoom)),
@@ -141,7 +141,7 @@ const LIMITS: &[(usize, usize, usize, Option<LaneError>)] = &[
     (1, 1, 1, None),
 ];
 
-// The capacity is tested before the numbers of ends.
+/// The capacity is tested before the numbers of ends.
 #[test]
 fn refuses_what_is_beyond_the_limits(rt: HostRuntime) {
     let alloc: Global = rt.alloc();
@@ -155,7 +155,7 @@ fn refuses_what_is_beyond_the_limits(rt: HostRuntime) {
     }
 }
 
-// A value that lends what it counts its drops in.
+/// A value that lends what it counts its drops in.
 struct CountsDrops<'a> {
     drops: &'a AtomicU64,
 }
@@ -167,7 +167,7 @@ impl<'a> Drop for CountsDrops<'a> {
     }
 }
 
-// What was not taken is dropped once the lane is settled, and settling counts it.
+/// What was not taken is dropped once the lane is settled, and settling counts it.
 #[test]
 fn drops_what_was_not_taken(rt: HostRuntime) -> Result<(), Fail> {
     let alloc: Global = rt.alloc();
@@ -187,7 +187,7 @@ fn drops_what_was_not_taken(rt: HostRuntime) -> Result<(), Fail> {
     Ok(())
 }
 
-// Puts the numbers below `count`, and then the end mark.
+/// Puts the numbers below `count`, and then the end mark.
 fn put_all<R: Wait>(rt: &R, mut end: PutEnd<u64>, count: u64) -> EndedPut<u64>
     requires { (end.put ≡ []) × (count ≤ 1000) }
     ensures { (result.lane ≡ end.lane) × (result.sender ≡ end.sender) }
@@ -198,7 +198,7 @@ fn put_all<R: Wait>(rt: &R, mut end: PutEnd<u64>, count: u64) -> EndedPut<u64>
     end.end(rt)
 }
 
-// Takes `count` items. Where there is no memory for one, it is missing among those.
+/// Takes `count` items. Where there is no memory for one, it is missing among those.
 fn take_all<R: Wait>(rt: &R, alloc: Global, mut end: TakeEnd<u64>, count: u64) -> Taken
     ensures { result.end.lane ≡ end.lane }
 {
@@ -210,7 +210,7 @@ fn take_all<R: Wait>(rt: &R, alloc: Global, mut end: TakeEnd<u64>, count: u64) -
     Taken { end, items }
 }
 
-// A taker's end, and what it took.
+/// A taker's end, and what it took.
 #[derive(Drop)]
 struct Taken {
     end: TakeEnd<u64>,
@@ -261,7 +261,7 @@ fn take_by_two<R: Threads + Wait + Sync>(
     )
 }
 
-// The ends of a lane with four senders and two takers.
+/// The ends of a lane with four senders and two takers.
 #[derive(Drop)]
 struct FourToTwo {
     a: PutEnd<u64>,
@@ -299,7 +299,7 @@ fn four_to_two(alloc: Global, capacity: usize) -> Result<FourToTwo, LaneError>
     })
 }
 
-// What a lane was settled with, and what each taker took.
+/// What a lane was settled with, and what each taker took.
 #[derive(Drop)]
 struct Run {
     put: u64,
@@ -308,7 +308,7 @@ struct Run {
     second: Vec<Shown>,
 }
 
-// Four senders put 250 values and an end mark each, and two takers take 502 items each, each in a thread of its own.
+/// Four senders put 250 values and an end mark each, and two takers take 502 items each, each in a thread of its own.
 fn run_lane<R: Threads + Wait + Sync>(
     rt: &R,
     alloc: Global,
@@ -385,7 +385,7 @@ fn put_by_four<R: Threads + Wait + Sync>(
     )
 }
 
-// The numbers of one sender among these items, in order.
+/// The numbers of one sender among these items, in order.
 fn numbers_of(alloc: Global, items: &[Shown], sender: u32) -> Result<Vec<u64>, AllocError> {
     let mut numbers = Vec::new(alloc);
     for item in items {
@@ -396,7 +396,7 @@ fn numbers_of(alloc: Global, items: &[Shown], sender: u32) -> Result<Vec<u64>, A
     Ok(numbers)
 }
 
-// Whether each number is greater than those before it.
+/// Whether each number is greater than those before it.
 fn rises(numbers: &[u64]) -> bool {
     let mut least = 0u64;
     for number in numbers {
@@ -408,7 +408,7 @@ fn rises(numbers: &[u64]) -> bool {
     true
 }
 
-// Whether the numbers of one sender rise at each taker, and are together 0 to 250, each once.
+/// Whether the numbers of one sender rise at each taker, and are together 0 to 250, each once.
 fn rise_and_are_all(
     alloc: Global,
     first: &[Shown],
@@ -423,7 +423,7 @@ fn rise_and_are_all(
     Ok(both_rise && numbers.len() == 251 && count_up(&numbers))
 }
 
-// Through a lane of capacity 1 each item of four senders comes to one of two takers, once, and in rising numbers.
+/// Through a lane of capacity 1 each item of four senders comes to one of two takers, once, and in rising numbers.
 #[test]
 fn takes_each_item_once(rt: HostRuntime) -> Result<(), Fail> {
     let alloc: Global = rt.alloc();
@@ -439,8 +439,8 @@ fn takes_each_item_once(rt: HostRuntime) -> Result<(), Fail> {
     Ok(())
 }
 
-// Where the lane's room is refused, that is said, and nothing else. The heap grows by steps
-// smaller than any allocation, so that each allocation in turn is the one that is refused.
+/// Where the lane's room is refused, that is said, and nothing else. The heap grows by steps
+/// smaller than any allocation, so that each allocation in turn is the one that is refused.
 #[test]
 fn refused_memory_is_said(rt: HostRuntime) -> Result<(), Fail> {
     let alloc: Global = rt.alloc();

@@ -46,21 +46,21 @@ impl Model for Listed {
     }) ≡ None };
 }
 
-// Whether a place is among others.
+/// Whether a place is among others.
 fn has_place(place: Place, places: &[Place]) -> bool
     ensures { result ≡ is_listed place places.now }
 {
     places.iter().any(|other| place == *other)
 }
 
-// Whether all places are the code's.
+/// Whether all places are the code's.
 fn has_all(code: Code, places: &[Place]) -> bool
     ensures { result ≡ list_all (code_has (tables_of code)) places.now }
 {
     places.iter().all(|place| code.has(*place))
 }
 
-// Whether the target and all survivors are places of the code.
+/// Whether the target and all survivors are places of the code.
 fn are_places(code: Code, target: Place, survivors: &[Place]) -> bool
     ensures { result ≡ (code_has (tables_of code) target && list_all (code_has (tables_of code)) survivors.now) }
 {
@@ -76,7 +76,7 @@ fn has_repeated(places: &[Place]) -> bool
     }
 }
 
-// Why a listed request is refused, if it is.
+/// Why a listed request is refused, if it is.
 fn refusal(
     code: Code,
     stripe: &str,

@@ -103,7 +103,7 @@ pub fn read_list(alloc: Global, bytes: &[u8]) -> Result<Vec<Record>, ListFault>
     Ok(list)
 }
 
-// Takes one more record: the header, which says whether records name their codes, or an order.
+/// Takes one more record: the header, which says whether records name their codes, or an order.
 fn take_row(
     alloc: Global,
     list: &mut Vec<Record>,
@@ -133,7 +133,7 @@ fn take_row(
     Ok(())
 }
 
-// The fields of a record. Only a list whose header names it has the last.
+/// The fields of a record. Only a list whose header names it has the last.
 #[derive(Clone, Copy)]
 struct Fields<'a> {
     order: &'a [u8],
@@ -144,14 +144,14 @@ struct Fields<'a> {
     code: Option<&'a [u8]>,
 }
 
-// How many fields a record has, in a list with codes or without.
+/// How many fields a record has, in a list with codes or without.
 fn field_count(coded: bool) -> usize
     ensures { result ≡ field_count coded }
 {
     if coded { 6 } else { 5 }
 }
 
-// The fields of a record, where it has as many as a list with codes, or without, asks for.
+/// The fields of a record, where it has as many as a list with codes, or without, asks for.
 fn fields_in(coded: bool, row: &ByteRecord) -> Option<Fields<'_>>
     ensures fields { IfSome result (HasFields coded (fields_of row.now)) }
     ensures other { IfNone result (length (fields_of row.now) ≡ field_count coded → ⊥) }
@@ -169,7 +169,7 @@ fn fields_in(coded: bool, row: &ByteRecord) -> Option<Fields<'_>>
     })
 }
 
-// Whether a record is the header of a list with codes, or without.
+/// Whether a record is the header of a list with codes, or without.
 fn is_header(coded: bool, row: &ByteRecord) -> bool
     ensures { result ≡ pointwise bytes_eq (fields_of row.now) (if coded then coded_header else header) }
 {
@@ -187,7 +187,7 @@ fn is_header(coded: bool, row: &ByteRecord) -> bool
     }
 }
 
-// The order of record `number`, by its fields.
+/// The order of record `number`, by its fields.
 fn order_of(
     alloc: Global,
     coded: bool,
@@ -206,7 +206,7 @@ fn order_of(
     }
 }
 
-// The order of record `number`, by its first five fields, over this code, where one is named, with or without something after.
+/// The order of record `number`, by its first five fields, over this code, where one is named, with or without something after.
 fn order_in(
     alloc: Global,
     code: Option<Code>,
@@ -246,7 +246,7 @@ fn is_close(blank: bool, fields: &Fields<'_>) -> bool
         && blank
 }
 
-// The order of record `number`, which is to list a request.
+/// The order of record `number`, which is to list a request.
 fn rebuild_of(
     alloc: Global,
     code: Code,
@@ -279,7 +279,7 @@ fn rebuild_of(
     }
 }
 
-// The places that names with one space between two give.
+/// The places that names with one space between two give.
 fn parse_places(alloc: Global, code: Code, text: &[u8]) -> Result<Option<Vec<Place>>, AllocError>
     ensures { IfOk result (λ v. option_map (λ s. s.items) v ≡ places code text.now) }
 {
@@ -290,7 +290,7 @@ fn parse_places(alloc: Global, code: Code, text: &[u8]) -> Result<Option<Vec<Pla
     parse_names(alloc, code, names.as_slice())
 }
 
-// The parts between the spaces of a text.
+/// The parts between the spaces of a text.
 fn split_at_spaces(alloc: Global, text: &[u8]) -> Result<Vec<&[u8]>, AllocError>
     ensures { IfOk result (λ v. map (λ w. w.now) v.items ≡ slice_split is_space text.now) }
 {

@@ -9,11 +9,11 @@ use std::alloc::{AllocError, Global};
 use std::process::Abort;
 use std::thread::Threads;
 
-// The digest of a million times `a` in FIPS 180-2.
+/// The digest of a million times `a` in FIPS 180-2.
 const MILLION: [u8; 32] =
     *b"\xcd\xc7\x6e\x5c\x99\x14\xfb\x92\x81\xa1\xc7\xe2\x84\xd7\x3e\x67\xf1\x80\x9a\x48\xa4\x97\x20\x0e\x04\x6d\x39\xcc\xc7\x11\x2c\xd0";
 
-// How long the fragments are.
+/// How long the fragments are.
 #[derive(Clone, Copy, Debug)]
 enum Lengths {
     // All of one length.
@@ -36,10 +36,10 @@ fn length_of(lengths: Lengths, number: u8) -> usize {
     }
 }
 
-// 33 fragments that are so much longer are worth three threads.
+/// 33 fragments that are so much longer are worth three threads.
 const LONGER: usize = 100_000;
 
-// A fragment of bytes that all are its number.
+/// A fragment of bytes that all are its number.
 fn fragment(
     alloc: Global,
     lengths: Lengths,
@@ -51,7 +51,7 @@ fn fragment(
     Ok(Outcome::Rebuilt(Bytes::new(bytes)))
 }
 
-// Racks with so many rebuilt fragments, other outcomes between them, and racks without answers between racks.
+/// Racks with so many rebuilt fragments, other outcomes between them, and racks without answers between racks.
 fn racks_of(
     alloc: Global,
     lengths: Lengths,
@@ -79,7 +79,7 @@ fn racks_of(
     Ok(racks)
 }
 
-// The same digests, one after the other by the crate `sha2`.
+/// The same digests, one after the other by the crate `sha2`.
 fn plain_digests(
     alloc: Global,
     racks: &[Vec<(usize, Outcome)>],
@@ -97,12 +97,12 @@ fn plain_digests(
     Ok(digests)
 }
 
-// How many fragments there are: around one and two groups of eight, and around the grains that threads take.
+/// How many fragments there are: around one and two groups of eight, and around the grains that threads take.
 const FRAGMENTS: &[u8] = &[0, 1, 7, 8, 9, 16, 17, 33, 64];
 
 const LENGTHS: &[Lengths] = &[Lengths::Equal, Lengths::Broken, Lengths::Mixed];
 
-// Asserts that the digests are the plain ones, for each of these numbers of fragments and all of their lengths.
+/// Asserts that the digests are the plain ones, for each of these numbers of fragments and all of their lengths.
 fn assert_agree<R: Abort + Threads + Sync>(
     rt: &R,
     alloc: Global,
@@ -123,7 +123,7 @@ fn assert_agree<R: Abort + Threads + Sync>(
     Ok(())
 }
 
-// Asserts that the digests of fragments of these lengths are the plain ones.
+/// Asserts that the digests of fragments of these lengths are the plain ones.
 fn assert_made(
     rt: &impl Abort,
     made: &[Option<[u8; 32]>],
@@ -143,13 +143,13 @@ fn digests_of_any_lengths_agree_with_sha2(rt: HostRuntime) -> Result<(), AllocEr
     assert_agree(&rt, rt.alloc(), FRAGMENTS, 0, 16)
 }
 
-// Of two grains and one fragment alone.
+/// Of two grains and one fragment alone.
 #[test]
 fn digests_in_threads_agree_with_sha2(rt: HostRuntime) -> Result<(), AllocError> {
     assert_agree(&rt, rt.alloc(), &[33], LONGER, 16)
 }
 
-// Whether every other digest, from the first on, is that of a million times `a`, and there are no others.
+/// Whether every other digest, from the first on, is that of a million times `a`, and there are no others.
 fn are_of_million(digests: &[Option<[u8; 32]>]) -> bool {
     let mut index = 0usize;
     for digest in digests {
@@ -162,7 +162,7 @@ fn are_of_million(digests: &[Option<[u8; 32]>]) -> bool {
     index == 66
 }
 
-// Two grains and one alone, for as many threads as can be made.
+/// Two grains and one alone, for as many threads as can be made.
 #[test]
 fn three_threads_make_the_known_digest(rt: HostRuntime) -> Result<(), AllocError> {
     let racks = [rack_of_million(rt.alloc())?];
@@ -175,7 +175,7 @@ fn three_threads_make_the_known_digest(rt: HostRuntime) -> Result<(), AllocError
     Ok(())
 }
 
-// A rack with 33 fragments of a million times `a`, and an outcome without a fragment after each.
+/// A rack with 33 fragments of a million times `a`, and an outcome without a fragment after each.
 fn rack_of_million(alloc: Global) -> Result<Vec<(usize, Outcome)>, AllocError> {
     let mut rack = Vec::new(alloc);
     for _ in 0..33 {

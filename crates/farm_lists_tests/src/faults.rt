@@ -6,7 +6,7 @@ use lrc_code::RequestFault;
 use std::alloc::AllocError;
 use std::process::Abort;
 
-// Asserts the status and the line with which a fault ends the program.
+/// Asserts the status and the line with which a fault ends the program.
 fn assert_end(
     rt: &(impl Abort + AllocGlobal),
     fault: ServeFault,
@@ -107,7 +107,7 @@ const OF_A_LIST: &[(usize, usize, ListFault, &str)] = &[
     ),
 ];
 
-// The line names the list's file, and gives both numbers of a refused request.
+/// The line names the list's file, and gives both numbers of a refused request.
 #[test]
 fn faults_of_a_list_name_its_file(rt: HostRuntime) -> Result<(), AllocError> {
     for (rack, feed, fault, line) in OF_A_LIST {

@@ -4,10 +4,10 @@ use farm_reports::grains::{LEAST_PART, made_in_threads, places_by_length};
 use std::alloc::{AllocError, Global};
 use std::thread::Threads;
 
-// 33 fragments of this length, of which a third is empty, are worth two threads.
+/// 33 fragments of this length, of which a third is empty, are worth two threads.
 const LONG: usize = 131_072;
 
-// Fragments of which each is shorter than the one before it, every third one empty.
+/// Fragments of which each is shorter than the one before it, every third one empty.
 fn fragments_of(alloc: Global, bytes: &[u8], count: usize) -> Result<Vec<&[u8]>, AllocError> {
     let mut fragments = Vec::with_capacity(alloc, count)?;
     for number in 0..count {
@@ -21,7 +21,7 @@ fn fragments_of(alloc: Global, bytes: &[u8], count: usize) -> Result<Vec<&[u8]>,
     Ok(fragments)
 }
 
-// How many of the digests of so many fragments, the longest of so many bytes, no thread makes.
+/// How many of the digests of so many fragments, the longest of so many bytes, no thread makes.
 fn missing<R: Threads + Sync>(
     rt: &R,
     alloc: Global,
@@ -60,7 +60,7 @@ fn the_longest_come_first(rt: HostRuntime) -> Result<(), AllocError> {
     Ok(())
 }
 
-// Whether the fragments at these places have these lengths.
+/// Whether the fragments at these places have these lengths.
 fn are_of_lengths(places: &[usize], fragments: &[&[u8]], lengths: &[usize]) -> bool {
     for (place, length) in places.iter().zip(lengths) {
         match fragments.get(*place) {

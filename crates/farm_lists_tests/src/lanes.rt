@@ -10,14 +10,14 @@ fn checked_digests(rt: &impl Abort, messages: &[&[u8]; 8]) -> [[u8; 32]; 8] {
     digests_of_eight(messages)
 }
 
-// Byte `i` of the message in lane `lane`, at length `len`.
+/// Byte `i` of the message in lane `lane`, at length `len`.
 fn byte_at(i: usize, lane: usize, len: usize) -> u8
     requires { (i < 4096) × (lane < 8) × (len < 4096) }
 {
     ((31 * i + 17 * lane + len) % 251) as u8
 }
 
-// Eight messages of `len` bytes, each in a row of its own.
+/// Eight messages of `len` bytes, each in a row of its own.
 fn rows_of(len: usize) -> [[u8; 1000]; 8]
     requires { len ≤ 1000 }
 {
@@ -50,12 +50,12 @@ fn digests_of_rows(rt: &impl Abort, rows: &[[u8; 1000]; 8], len: usize) -> [[u8;
 
 const OTHER: &[u8] = &[0x5a; 1000];
 
-// Asserts that a digest is the right one.
+/// Asserts that a digest is the right one.
 fn assert_digest(rt: &impl Abort, found: &[u8; 32], right: &[u8; 32], number: usize) {
     assert!(rt; found == right, "message {number}");
 }
 
-// A message in each lane, beside other messages of its length.
+/// A message in each lane, beside other messages of its length.
 fn check_in_each_lane(rt: &impl Abort, message: &'static [u8], wanted: &[u8; 32]) {
     let Some(other) = OTHER.get(..message.len()) else {
         panic!(rt; "a message that is too long");
@@ -71,8 +71,8 @@ fn check_in_each_lane(rt: &impl Abort, message: &'static [u8], wanted: &[u8; 32]
     }
 }
 
-// The standard's examples of SHA-256, of 24 and 448 bits, its message of 896 bits, and the empty
-// message. The last two digests are those of OpenSSL.
+/// The standard's examples of SHA-256, of 24 and 448 bits, its message of 896 bits, and the empty
+/// message. The last two digests are those of OpenSSL.
 #[test]
 fn published_messages_have_their_digests(rt: HostRuntime) {
     check_in_each_lane(
@@ -97,8 +97,8 @@ fn published_messages_have_their_digests(rt: HostRuntime) {
     );
 }
 
-// The digest of eight digests in a row, at lengths around a block's end and the length field's
-// place. The values are those of OpenSSL.
+/// The digest of eight digests in a row, at lengths around a block's end and the length field's
+/// place. The values are those of OpenSSL.
 #[test]
 fn lengths_around_a_block_have_their_digests(rt: HostRuntime) {
     let cases: [usize; 15] = [
@@ -137,7 +137,7 @@ fn digest_of_digests(digests: &[[u8; 32]; 8]) -> [u8; 32] {
     hasher.finalize()
 }
 
-// Each lane at each length up to 300 against the crate's own hasher.
+/// Each lane at each length up to 300 against the crate's own hasher.
 #[test]
 fn every_length_agrees_with_sha2(rt: HostRuntime) {
     for len in 0..301usize {
@@ -150,7 +150,7 @@ fn every_length_agrees_with_sha2(rt: HostRuntime) {
     }
 }
 
-// Lengths of messages, with runs of one length, too short and long enough, between others.
+/// Lengths of messages, with runs of one length, too short and long enough, between others.
 const MIXED: &[usize] = &[
     3, 64, 64, 64, 64, 64, 64, 64, 9, 55, 55, 55, 55, 55, 55, 55, 55, 56, 120, 120, 120, 120, 120,
     120, 120, 120, 120, 120, 120, 120, 120, 120, 120, 120, 0, 1, 1, 1, 1, 1,
@@ -177,7 +177,7 @@ fn messages_of_mixed_lengths_agree_with_sha2(rt: HostRuntime) {
     digests(&no_messages, &mut []);
 }
 
-// Messages that are owned: nine arrays, so eight in the lanes and one after them.
+/// Messages that are owned: nine arrays, so eight in the lanes and one after them.
 #[test]
 fn owned_messages_agree_with_sha2(rt: HostRuntime) {
     let mut messages = [[7u8; 65]; 9];
@@ -203,7 +203,7 @@ fn another_length_in_any_lane_is_seen(rt: HostRuntime) {
     }
 }
 
-// The digest of 192 bytes of 61 and then a byte.
+/// The digest of 192 bytes of 61 and then a byte.
 fn plain_digest(last: u8) -> [u8; 32] {
     let mut message = [0x61u8; 193];
     message[192] = last;

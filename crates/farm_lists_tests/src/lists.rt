@@ -10,14 +10,14 @@ const HEADER: &[u8] = b"order,stripe,target,length,survivors\n";
 
 const CODED_HEADER: &[u8] = b"order,stripe,target,length,survivors,code\n";
 
-// A header and these bytes after it.
+/// A header and these bytes after it.
 fn list_with(alloc: Global, header: &[u8], records: &[u8]) -> Result<Vec<u8>, AllocError> {
     let mut bytes = Vec::from_slice(alloc, header)?;
     bytes.extend_from_slice(records)?;
     Ok(bytes)
 }
 
-// The faults that records are refused with.
+/// The faults that records are refused with.
 const BAD_FIRST: ListFault = ListFault::BadRecord { number: 1 };
 
 const BAD_SECOND: ListFault = ListFault::BadRecord { number: 2 };
@@ -42,7 +42,7 @@ const NOT_LOST: ListFault = ListFault::Refused {
     fault: RequestFault::NotLost,
 };
 
-// Records after the header without codes, and their fault.
+/// Records after the header without codes, and their fault.
 const FAULTS: &[(&[u8], ListFault)] = &[
     (b"rebuild,abc,x0,3", BAD_FIRST),
     (b"rebuild,abc,x3,3,", BAD_FIRST),
@@ -73,7 +73,7 @@ const FAULTS: &[(&[u8], ListFault)] = &[
     (b"rebuild,,x0,3,", BAD_STRIPE),
 ];
 
-// Records after the header with codes: each has six fields, and each name is one of its code's.
+/// Records after the header with codes: each has six fields, and each name is one of its code's.
 const FAULTS_WITH_CODES: &[(&[u8], ListFault)] = &[
     (b"rebuild,abc,x0,3,x1", BAD_FIRST),
     (b"rebuild,abc,x0,3,x1,", BAD_FIRST),
@@ -100,7 +100,7 @@ const FAULTS_WITH_CODES: &[(&[u8], ListFault)] = &[
     (b"rebuild,abc,x0,3,x0,6-2-2", NOT_LOST),
 ];
 
-// The fault of the list of this header and these records, if it is refused.
+/// The fault of the list of this header and these records, if it is refused.
 fn fault_of(alloc: Global, header: &[u8], records: &[u8]) -> Result<Option<ListFault>, AllocError> {
     let bytes = list_with(alloc, header, records)?;
     Ok(read_list(alloc, bytes.as_slice()).err())
@@ -119,7 +119,7 @@ fn each_wrong_record_has_its_fault(rt: HostRuntime) -> Result<(), AllocError> {
     Ok(())
 }
 
-// Asserts the fault of these bytes.
+/// Asserts the fault of these bytes.
 fn assert_fault(rt: &impl Abort, found: Option<ListFault>, fault: ListFault, bytes: &[u8]) {
     assert!(rt;
         found == Some(fault),
@@ -128,7 +128,7 @@ fn assert_fault(rt: &impl Abort, found: Option<ListFault>, fault: ListFault, byt
     );
 }
 
-// Headers that a list may not have.
+/// Headers that a list may not have.
 const BAD_HEADERS: &[&[u8]] = &[
     b"",
     b"order,stripe,target,length,survivors,Code\n",
@@ -150,7 +150,7 @@ fn other_headers_are_refused(rt: HostRuntime) -> Result<(), AllocError> {
     Ok(())
 }
 
-// Each record has its own code; a list without codes is of the (6,2,2) code.
+/// Each record has its own code; a list without codes is of the (6,2,2) code.
 #[test]
 fn each_record_has_its_own_code(rt: HostRuntime) -> Result<(), AllocError> {
     let bytes = list_with(
@@ -165,7 +165,7 @@ fn each_record_has_its_own_code(rt: HostRuntime) -> Result<(), AllocError> {
     Ok(())
 }
 
-// Whether a list isn't refused, and its records are right.
+/// Whether a list isn't refused, and its records are right.
 fn is_read<F: Fn(&[Record]) -> bool>(alloc: Global, bytes: &[u8], are_right: F) -> bool
     requires { F.IsAlwaysCallable are_right }
 {
@@ -175,7 +175,7 @@ fn is_read<F: Fn(&[Record]) -> bool>(alloc: Global, bytes: &[u8], are_right: F) 
     }
 }
 
-// Whether these are a request over the (12,2,2) code, a close, and a request over the (6,2,2) code.
+/// Whether these are a request over the (12,2,2) code, a close, and a request over the (6,2,2) code.
 fn are_of_both_codes(list: &[Record]) -> bool {
     match list {
         [first, Record::Close, third] => {
@@ -192,7 +192,7 @@ fn begins_with_narrow(list: &[Record]) -> bool {
     }
 }
 
-// Whether the record lists a request over the code, with so many survivors.
+/// Whether the record lists a request over the code, with so many survivors.
 fn has_code(record: &Record, code: Code, survivors: usize) -> bool {
     match record {
         Record::Rebuild(listed) => {
@@ -202,7 +202,7 @@ fn has_code(record: &Record, code: Code, survivors: usize) -> bool {
     }
 }
 
-// Lists of the same record, whatever ends the lines and whatever is quoted.
+/// Lists of the same record, whatever ends the lines and whatever is quoted.
 const WRITTEN_OTHERWISE: &[&[u8]] = &[
     b"order,stripe,target,length,survivors\nrebuild,abc,x0,0000003,\n",
     b"\xef\xbb\xbforder,stripe,target,length,survivors\r\nrebuild,abc,x0,3,\r\n",
@@ -220,7 +220,7 @@ fn line_ends_and_quotes_change_no_record(rt: HostRuntime) {
     }
 }
 
-// Whether the list is one request, of which nothing survives.
+/// Whether the list is one request, of which nothing survives.
 fn is_one_request(list: &[Record]) -> bool {
     match list {
         [Record::Rebuild(listed)] => {
@@ -248,7 +248,7 @@ fn has_survivors_in_order(list: &[Record]) -> bool {
     }
 }
 
-// How many records the list has, where it isn't refused.
+/// How many records the list has, where it isn't refused.
 fn count_of(alloc: Global, bytes: &[u8]) -> Result<usize, ListFault> {
     Ok(read_list(alloc, bytes)?.len())
 }
@@ -263,7 +263,7 @@ fn a_byte_past_the_limit_is_refused(rt: HostRuntime) -> Result<(), AllocError> {
     Ok(())
 }
 
-// A list of as many bytes as there may be.
+/// A list of as many bytes as there may be.
 fn greatest_list(alloc: Global) -> Result<Vec<u8>, AllocError> {
     let mut bytes = Vec::from_slice(alloc, HEADER)?;
     for _ in HEADER.len()..1_048_576 {
@@ -272,7 +272,7 @@ fn greatest_list(alloc: Global) -> Result<Vec<u8>, AllocError> {
     Ok(bytes)
 }
 
-// How many records are read of the greatest number of closes with these bytes after them.
+/// How many records are read of the greatest number of closes with these bytes after them.
 fn count_behind_closes(alloc: Global, last: &[u8]) -> Result<Result<usize, ListFault>, AllocError> {
     let mut bytes = Vec::from_slice(alloc, HEADER)?;
     for _ in 0..4096 {
@@ -282,7 +282,7 @@ fn count_behind_closes(alloc: Global, last: &[u8]) -> Result<Result<usize, ListF
     Ok(count_of(alloc, bytes.as_slice()))
 }
 
-// The record after the greatest number of them is one too many, whatever it is.
+/// The record after the greatest number of them is one too many, whatever it is.
 #[test]
 fn a_record_past_the_limit_is_refused(rt: HostRuntime) -> Result<(), AllocError> {
     let alloc = rt.alloc();
@@ -293,8 +293,8 @@ fn a_record_past_the_limit_is_refused(rt: HostRuntime) -> Result<(), AllocError>
     Ok(())
 }
 
-// The lengths at which the first bytes of the list of four records are a list, with the number of its records and of the survivors of
-// its last request.
+/// The lengths at which the first bytes of the list of four records are a list, with the number of its records and of the survivors of
+/// its last request.
 const WHOLE: [(usize, usize, usize); 16] = [
     (36, 0, 0),
     (37, 0, 0),
@@ -314,7 +314,7 @@ const WHOLE: [(usize, usize, usize); 16] = [
     (109, 4, 3),
 ];
 
-// The fault of the other first bytes: the header has 36 of them, and with its line feed each record ends as named.
+/// The fault of the other first bytes: the header has 36 of them, and with its line feed each record ends as named.
 fn cut_fault(length: usize) -> ListFault {
     match length {
         0..=35 => ListFault::BadHeader,
@@ -325,7 +325,7 @@ fn cut_fault(length: usize) -> ListFault {
     }
 }
 
-// What the first bytes that are a list hold: the number of records, and of survivors.
+/// What the first bytes that are a list hold: the number of records, and of survivors.
 fn whole_at(length: usize) -> Option<(usize, usize)> {
     for (at, records, survivors) in &WHOLE {
         if *at == length {
@@ -335,7 +335,7 @@ fn whole_at(length: usize) -> Option<(usize, usize)> {
     None
 }
 
-// Whether this is what the first bytes of the list give, as many as are given.
+/// Whether this is what the first bytes of the list give, as many as are given.
 fn is_of_first_bytes(read: &Result<Vec<Record>, ListFault>, length: usize) -> bool {
     match (read, whole_at(length)) {
         (Ok(list), Some((records, survivors))) => {
@@ -346,7 +346,7 @@ fn is_of_first_bytes(read: &Result<Vec<Record>, ListFault>, length: usize) -> bo
     }
 }
 
-// A list that is cut after each of its bytes.
+/// A list that is cut after each of its bytes.
 #[test]
 fn a_list_cut_short_is_refused_or_has_fewer_records(rt: HostRuntime) {
     assert!(&rt; LIST.len() == 109);
@@ -356,7 +356,7 @@ fn a_list_cut_short_is_refused_or_has_fewer_records(rt: HostRuntime) {
     }
 }
 
-// The number of survivors of the last request, all of them as listed; none without a request.
+/// The number of survivors of the last request, all of them as listed; none without a request.
 fn last_survivors(list: &[Record]) -> usize {
     let mut count = 0;
     for record in list {
@@ -375,7 +375,7 @@ fn last_survivors(list: &[Record]) -> usize {
     count
 }
 
-// Listed requests over (6,2,2) for a fragment of three bytes at a place, the places of their survivors, and why they are refused.
+/// Listed requests over (6,2,2) for a fragment of three bytes at a place, the places of their survivors, and why they are refused.
 const REFUSED: &[(Place, &[Place], RequestFault)] = &[
     (Place::X3, &[Place::X1], RequestFault::WrongCode),
     (Place::X0, &[Place::X1, Place::X3], RequestFault::WrongCode),

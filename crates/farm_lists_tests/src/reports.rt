@@ -6,7 +6,7 @@ use lrc_code::{Bytes, Code, Outcome, Place};
 use std::alloc::{AllocError, Global};
 use std::process::Abort;
 
-// One request of the (12,2,2) code.
+/// One request of the (12,2,2) code.
 const WIDE_LIST: &[u8] = b"order,stripe,target,length,survivors,code
 rebuild,abc,x0,3,x1 x2 x3 x4 x5 px,12-2-2
 ";
@@ -15,7 +15,7 @@ const WIDE_REPORT: &[u8] = b"number,stripe,target,length,outcome,digest,unread,c
 0,abc,x0,3,rebuilt,ba7816bf8f01cfea414140de5dae2223b00361a396177a9cb410ff61f20015ad,,12-2-2
 ";
 
-// The report on a rack whose first feed has one request, and whose second has none.
+/// The report on a rack whose first feed has one request, and whose second has none.
 const REPORT_OF_TWO_FEEDS: &[u8] = b"number,feed,stripe,target,length,outcome,digest,unread
 0,0,abc,x0,3,rebuilt,ba7816bf8f01cfea414140de5dae2223b00361a396177a9cb410ff61f20015ad,
 ";
@@ -27,7 +27,7 @@ const REPORT_OF_FEEDS_AND_CODES: &[u8] =
 2,3,def,p1,1,several,,y3 px,12-2-2
 ";
 
-// The request that a list begins with.
+/// The request that a list begins with.
 fn first_listed(list: &[Record]) -> Option<&Listed> {
     match list {
         [Record::Rebuild(listed), ..] => Some(listed),
@@ -39,7 +39,7 @@ fn rebuilt(alloc: Global) -> Result<Outcome, AllocError> {
     Ok(Outcome::Rebuilt(Bytes::new(Vec::from_slice(alloc, b"abc")?)))
 }
 
-// Asserts that the report on the one request of a list with this outcome and these places left out is this one.
+/// Asserts that the report on the one request of a list with this outcome and these places left out is this one.
 fn assert_reported(
     rt: &impl Abort,
     alloc: Global,
@@ -94,7 +94,7 @@ fn a_rack_of_two_feeds_has_their_column(rt: HostRuntime) -> Result<(), AllocErro
     Ok(())
 }
 
-// A request without listed survivors.
+/// A request without listed survivors.
 fn request(
     alloc: Global,
     code: Code,
@@ -151,7 +151,7 @@ fn rows_name_their_feeds_and_codes(rt: HostRuntime) -> Result<(), AllocError> {
     Ok(())
 }
 
-// Reports without rows, of racks with feeds or without, and with codes or without.
+/// Reports without rows, of racks with feeds or without, and with codes or without.
 const WITHOUT_ROWS: &[(bool, bool, &[u8])] = &[
     (false, false, EMPTY_REPORT),
     (

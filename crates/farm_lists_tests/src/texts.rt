@@ -5,7 +5,7 @@ use farm_reading::ServeFault;
 use lrc_code::RequestFault;
 use std::alloc::AllocError;
 
-// The faults of requests, by the order of their tests.
+/// The faults of requests, by the order of their tests.
 const REQUEST_FAULTS: &[(RequestFault, &str)] = &[
     (
         RequestFault::BadStripe,
@@ -33,7 +33,7 @@ fn request_faults_say_their_limits(rt: HostRuntime) -> Result<(), AllocError> {
     Ok(())
 }
 
-// The faults of lists: a list holds 1,048,576 bytes and 4,096 orders at most.
+/// The faults of lists: a list holds 1,048,576 bytes and 4,096 orders at most.
 const LIST_FAULTS: &[(ListFault, &str)] = &[
     (
         ListFault::InputTooLong,
@@ -67,7 +67,7 @@ fn list_faults_say_their_limits(rt: HostRuntime) -> Result<(), AllocError> {
     Ok(())
 }
 
-// The faults of serving. A list's fault says which list it is of.
+/// The faults of serving. A list's fault says which list it is of.
 const SERVE_FAULTS: &[(ServeFault, &str)] = &[
     (
         ServeFault::List {

@@ -54,7 +54,7 @@ pub fn files_of_piece(
     Ok(files)
 }
 
-// Adds the files of lists, one list after the other.
+/// Adds the files of lists, one list after the other.
 fn push_files(
     alloc: Global,
     files: &mut Vec<FileRead>,

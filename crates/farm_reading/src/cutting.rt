@@ -10,13 +10,13 @@ use farm_lists::{Listed, Record, count_requests};
 use farm_orders::limits::MOST_ORDERS;
 use std::alloc::{AllocError, Global};
 
-// What a survivor takes in memory beside its bytes, and a request beside its survivors: names, paths and rooms. With them a batch is
-// bounded in files too.
+/// What a survivor takes in memory beside its bytes, and a request beside its survivors: names, paths and rooms. With them a batch is
+/// bounded in files too.
 const SURVIVOR_ROOM: u64 = 512;
 
 const REQUEST_ROOM: u64 = 512;
 
-// The bytes of memory that a request's survivors may take by what it lists.
+/// The bytes of memory that a request's survivors may take by what it lists.
 fn request_bytes(listed: &Listed) -> u64
     ensures bytes { result ≡ (listed.now.len + survivor_room) * length listed.now.survivors + request_room }
     ensures few { result ≤ record_most }
@@ -27,7 +27,7 @@ fn request_bytes(listed: &Listed) -> u64
         .saturating_add(REQUEST_ROOM)
 }
 
-// The bytes of a record's survivors.
+/// The bytes of a record's survivors.
 fn record_bytes(row: &Record) -> u64
     ensures bytes { result ≡ record_bytes row.now }
     ensures few { result ≤ record_most }
@@ -38,7 +38,7 @@ fn record_bytes(row: &Record) -> u64
     }
 }
 
-// The bytes of a list's survivors.
+/// The bytes of a list's survivors.
 fn list_bytes(list: &[Record]) -> u64
     requires { length list.now ≤ order_limit }
     ensures bytes { result ≡ list_bytes list.now }
@@ -51,7 +51,7 @@ fn list_bytes(list: &[Record]) -> u64
     bytes
 }
 
-// The bytes of the survivors of a rack's lists together.
+/// The bytes of the survivors of a rack's lists together.
 fn rack_bytes(lists: &[Vec<Record>]) -> u64
     requires feeds { length lists.now ≤ feed_limit }
     requires orders { All (λ l. length l.items ≤ order_limit) lists.now }
@@ -83,7 +83,7 @@ pub fn end_of_racks(racks: &[RackLists], first: usize, most: u64) -> usize
     racks.len()
 }
 
-// The bytes of the survivors of a list's record at a position, where it has one there.
+/// The bytes of the survivors of a list's record at a position, where it has one there.
 fn bytes_at(list: &[Record], position: usize) -> u64
     ensures bytes { result ≡ list_bytes (slice_range list.now position (position + 1)) }
     ensures few { result ≤ record_most }
@@ -95,7 +95,7 @@ fn bytes_at(list: &[Record], position: usize) -> u64
     }
 }
 
-// The bytes of the survivors of all feeds' records at one position.
+/// The bytes of the survivors of all feeds' records at one position.
 fn position_bytes(lists: &[&[Record]], position: usize) -> u64
     requires { length lists.now ≤ feed_limit }
     ensures bytes { result ≡ listed_bytes (piece (map (λ list. list.now) lists.now) position (position + 1)) }
@@ -140,7 +140,7 @@ pub fn lists_through_close<'a>(
     Ok(cut)
 }
 
-// A list up to its first close, with that close.
+/// A list up to its first close, with that close.
 fn list_through_close(list: &[Record]) -> &[Record]
     ensures { result.now ≡ through_close list.now }
 {
@@ -170,7 +170,7 @@ pub fn piece_of<'a>(
     Ok(part)
 }
 
-// The records of a list from one position to another, as far as it has them.
+/// The records of a list from one position to another, as far as it has them.
 fn part_of(list: &[Record], first: usize, end: usize) -> &[Record]
     requires { first ≤ end }
     ensures { result.now ≡ slice_range list.now first end }

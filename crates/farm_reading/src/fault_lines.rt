@@ -8,7 +8,7 @@ use farm_lists::{ListFault, list_file};
 use std::alloc::{AllocError, Global};
 use std::fmt::Write;
 
-// The fault as it is reported: memory that was refused while a list was read is no fault of that list.
+/// The fault as it is reported: memory that was refused while a list was read is no fault of that list.
 fn reported(fault: ServeFault) -> ServeFault
     ensures { result ≡ reported fault }
 {
@@ -54,7 +54,7 @@ pub fn fault_line(alloc: Global, fault: &ServeFault) -> Result<String, AllocErro
     }
 }
 
-// The line that reports the fault of the list of a rack's feed: the file's name, and what is wrong with the list.
+/// The line that reports the fault of the list of a rack's feed: the file's name, and what is wrong with the list.
 fn list_fault_line(
     alloc: Global,
     rack: usize,
@@ -69,7 +69,7 @@ fn list_fault_line(
     Ok(line)
 }
 
-// Adds what is wrong with a list.
+/// Adds what is wrong with a list.
 fn push_reason(line: &mut String, fault: ListFault) -> Result<(), AllocError>
     ensures { OnOk result (string_bytes line.new ≡ string_bytes line.old ++ reason_text fault) }
 {

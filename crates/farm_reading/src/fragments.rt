@@ -31,8 +31,8 @@ use lrc_code::{Fragment, Place, Request};
 use std::alloc::{AllocError, Global};
 use std::thread::Threads;
 
-// The bytes of a listed survivor, where they are there and as many as listed and the device doesn't fail. One byte more than listed
-// is read, so that a longer file shows. Its name is made in this text.
+/// The bytes of a listed survivor, where they are there and as many as listed and the device doesn't fail. One byte more than listed
+/// is read, so that a longer file shows. Its name is made in this text.
 fn read_fragment<I: Shelf>(
     alloc: Global,
     input: &mut I,
@@ -63,7 +63,7 @@ fn read_fragment<I: Shelf>(
     }
 }
 
-// The fragments of a request's listed survivors that were read, and the places of the others.
+/// The fragments of a request's listed survivors that were read, and the places of the others.
 fn read_survivors<I: Shelf>(
     alloc: Global,
     input: &mut I,
@@ -93,7 +93,7 @@ fn read_survivors<I: Shelf>(
     Ok((fragments, unread))
 }
 
-// A listed request with the survivors that were read, and beside it the places of the others.
+/// A listed request with the survivors that were read, and beside it the places of the others.
 fn read_request<'a, I: Shelf>(
     alloc: Global,
     input: &mut I,
@@ -121,7 +121,7 @@ fn read_request<'a, I: Shelf>(
     Ok((request, ReadRequest { listed, unread }))
 }
 
-// The names of the files of the requests' listed survivors, each with the limit that it is read up to, in the order of the reads.
+/// The names of the files of the requests' listed survivors, each with the limit that it is read up to, in the order of the reads.
 fn fragment_files(alloc: Global, requests: &[&Listed]) -> Result<Vec<FileRead>, AllocError>
     ensures { IfOk result (λ v. map named_limit v.items ≡ flat_map (λ r. fragment_reads r.now) requests.now) }
 {
@@ -149,7 +149,7 @@ pub fn push_fragment_files(
     Ok(())
 }
 
-// Whether the shelf has read the requests' listed survivors ahead: none are to be read, where memory is refused to ask.
+/// Whether the shelf has read the requests' listed survivors ahead: none are to be read, where memory is refused to ask.
 fn has_ahead<I: Shelf>(alloc: Global, input: &I, requests: &[&Listed]) -> bool {
     let mut count = 0usize;
     for listed in requests {
@@ -166,7 +166,7 @@ fn has_ahead<I: Shelf>(alloc: Global, input: &I, requests: &[&Listed]) -> bool {
     true
 }
 
-// Lets the shelf read the requests' listed survivors ahead, unless it did or memory is refused for their names.
+/// Lets the shelf read the requests' listed survivors ahead, unless it did or memory is refused for their names.
 fn read_ahead<R: Threads + Sync, I: Shelf>(
     rt: &R,
     alloc: Global,
@@ -185,8 +185,8 @@ fn read_ahead<R: Threads + Sync, I: Shelf>(
     }
 }
 
-// The orders of requests with the survivors that were read, and of a close after them where one is asked for; and each request with the
-// places of the others.
+/// The orders of requests with the survivors that were read, and of a close after them where one is asked for; and each request with the
+/// places of the others.
 fn read_requests<'a, R: Threads + Sync, I: Shelf>(
     rt: &R,
     alloc: Global,
@@ -222,7 +222,7 @@ fn read_requests<'a, R: Threads + Sync, I: Shelf>(
     Ok((RackList::from_checked(orders), read))
 }
 
-// Adds a close, where one is asked for.
+/// Adds a close, where one is asked for.
 fn push_close(orders: &mut Vec<Order>, closes: bool) -> Result<(), AllocError>
     ensures { OnOk result (orders.new.items ≡ orders.old.items ++ (if closes then Close ∷ [] else [])) }
 {
@@ -232,7 +232,7 @@ fn push_close(orders: &mut Vec<Order>, closes: bool) -> Result<(), AllocError>
     Ok(())
 }
 
-// The orders of a feed's list up to its first close, with the survivors that were read, and each request with the places of the others.
+/// The orders of a feed's list up to its first close, with the survivors that were read, and each request with the places of the others.
 fn read_feed<'a, R: Threads + Sync, I: Shelf>(
     rt: &R,
     alloc: Global,
@@ -289,8 +289,8 @@ pub fn read_piece<'a, R: Threads + Sync, I: Shelf>(
     Ok((feeds, read))
 }
 
-// The orders of each feed of a whole rack up to its first close, with the survivors that were read, and each request with the places of
-// the others.
+/// The orders of each feed of a whole rack up to its first close, with the survivors that were read, and each request with the places of
+/// the others.
 fn read_rack<'a, R: Threads + Sync, I: Shelf>(
     rt: &R,
     alloc: Global,

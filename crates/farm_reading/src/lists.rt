@@ -17,10 +17,10 @@ use farm_orders::limits::{MOST_FEEDS, MOST_RACKS};
 use farm_shelves::Shelf;
 use std::alloc::Global;
 
-// One byte more than a list may have.
+/// One byte more than a list may have.
 const LIST_ROOM: usize = MOST_LIST_BYTES + 1;
 
-// The list of a rack's feed, where it is there.
+/// The list of a rack's feed, where it is there.
 fn read_feed_list<I: Shelf>(
     alloc: Global,
     input: &mut I,
@@ -45,7 +45,7 @@ fn read_feed_list<I: Shelf>(
     }
 }
 
-// The fault of a list, as serving's.
+/// The fault of a list, as serving's.
 fn list_fault(rack: usize, feed: usize, fault: ListFault) -> ServeFault
     ensures { result ≡ serve_fault rack feed fault }
 {
@@ -55,7 +55,7 @@ fn list_fault(rack: usize, feed: usize, fault: ListFault) -> ServeFault
     }
 }
 
-// The lists of a rack's feeds; none where the rack is absent.
+/// The lists of a rack's feeds; none where the rack is absent.
 fn read_rack_lists<I: Shelf>(
     alloc: Global,
     input: &mut I,
@@ -113,7 +113,7 @@ pub fn read_lists<I: Shelf>(alloc: Global, input: &mut I) -> Result<Vec<RackList
     Ok(racks)
 }
 
-// Whether the list of a rack's feed is there.
+/// Whether the list of a rack's feed is there.
 fn has_list<I: Shelf>(
     alloc: Global,
     input: &mut I,

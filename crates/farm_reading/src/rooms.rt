@@ -16,7 +16,7 @@ pub fn rooms_of(alloc: Global, feeds: Feeds) -> Vec<Vec<u8>> {
     rooms
 }
 
-// Adds the memory of the survivors of a list's requests.
+/// Adds the memory of the survivors of a list's requests.
 fn push_rooms(rooms: &mut Vec<Vec<u8>>, list: RackList) -> Result<(), AllocError> {
     for order in list.into_orders() {
         if let Order::Rebuild(request) = order {

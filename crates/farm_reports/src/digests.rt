@@ -39,7 +39,7 @@ pub fn digests_of_racks<R: Threads + Sync>(
     hand_out(alloc, outcomes.as_slice(), digests.as_slice())
 }
 
-// The outcomes of all racks, rack after rack.
+/// The outcomes of all racks, rack after rack.
 fn outcomes_of_racks(
     alloc: Global,
     racks: &[Vec<(usize, Outcome)>],
@@ -65,7 +65,7 @@ fn push_outcomes<'a>(
     Ok(())
 }
 
-// The bytes of the outcomes that are rebuilt fragments, in order.
+/// The bytes of the outcomes that are rebuilt fragments, in order.
 fn rebuilt_fragments<'a>(
     alloc: Global,
     outcomes: &[&'a Outcome],
@@ -92,7 +92,7 @@ fn push_fragment<'a>(fragments: &mut Vec<&'a [u8]>, outcome: &'a Outcome) -> Res
     }
 }
 
-// The digest of each outcome, from those of the rebuilt fragments among them in order.
+/// The digest of each outcome, from those of the rebuilt fragments among them in order.
 fn hand_out(
     alloc: Global,
     outcomes: &[&Outcome],
@@ -111,7 +111,7 @@ fn hand_out(
     Ok(handed)
 }
 
-// The digest of an outcome, the first of those left where it is a rebuilt fragment, and those left after it.
+/// The digest of an outcome, the first of those left where it is a rebuilt fragment, and those left after it.
 fn first_digest<'a>(outcome: &Outcome, left: &'a [Digest]) -> (Option<Digest>, &'a [Digest])
     ensures digest { (rest : List (List ℕ)) → left.now ≡ map sha256 (rebuilt_fragment outcome.now ++ rest)
         → result.0 ≡ fragment_digest outcome.now }

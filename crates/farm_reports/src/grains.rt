@@ -11,7 +11,7 @@ use std::sync::atomic::{AtomicUsize, Ordering};
 use std::thread;
 use std::thread::Threads;
 
-// How many fragments a grain has: twice as many as are digested at once.
+/// How many fragments a grain has: twice as many as are digested at once.
 const GRAIN: usize = 16;
 
 /// The least number of bytes for which a thread is started, with `BLOCK` more for each fragment.
@@ -20,10 +20,10 @@ pub const LEAST_PART: u64 = 1_048_576;
 /// What a fragment takes beside its bytes: a block of padding.
 pub const BLOCK: u64 = 64;
 
-// How many times its share of the grains a thread has room for.
+/// How many times its share of the grains a thread has room for.
 const SHARES: usize = 2;
 
-// The digests of neighbours: the place of the first, and the digest of each. Those after the last fragment don't matter.
+/// The digests of neighbours: the place of the first, and the digest of each. Those after the last fragment don't matter.
 #[derive(Clone, Copy)]
 struct Grain {
     at: usize,
@@ -82,7 +82,7 @@ fn length_at(fragments: &[&[u8]], place: usize) -> usize {
     }
 }
 
-// The fragments at places, in the order of these.
+/// The fragments at places, in the order of these.
 fn at_places<'a>(
     alloc: Global,
     fragments: &[&'a [u8]],
@@ -98,7 +98,7 @@ fn at_places<'a>(
     Ok(chosen)
 }
 
-// The grains of fragments, made in threads that take no memory: each puts its grains into slots of its own, and some slots stay empty.
+/// The grains of fragments, made in threads that take no memory: each puts its grains into slots of its own, and some slots stay empty.
 fn grains_in_threads<R: Threads + Sync>(
     rt: &R,
     alloc: Global,
@@ -119,7 +119,7 @@ fn grains_in_threads<R: Threads + Sync>(
     Ok(slots)
 }
 
-// How many threads are worth their start for these fragments, of so many at most: each has the least part, as of files in `farm_shelves`.
+/// How many threads are worth their start for these fragments, of so many at most: each has the least part, as of files in `farm_shelves`.
 fn worthwhile(fragments: &[&[u8]], threads: usize) -> usize
     ensures some { 0 < result }
     ensures few { result ≤ max 1 threads }
@@ -134,7 +134,7 @@ fn worthwhile(fragments: &[&[u8]], threads: usize) -> usize
     parts.min(threads).max(1)
 }
 
-// Makes grains in threads, each with so many of the slots.
+/// Makes grains in threads, each with so many of the slots.
 fn make_grains<R: Threads + Sync>(
     rt: &R,
     fragments: &[&[u8]],
@@ -152,7 +152,7 @@ fn make_grains<R: Threads + Sync>(
     thread::for_each_chunk_mut(rt, slots, room, &part);
 }
 
-// Makes a grain for each slot, as long as there are fragments that no thread has taken.
+/// Makes a grain for each slot, as long as there are fragments that no thread has taken.
 fn fill(fragments: &[&[u8]], next: &AtomicUsize, slots: &mut [Option<Grain>])
     ensures { AreGrains (map (λ f. sha256 f.now) fragments.now) slots.new }
 {
@@ -161,7 +161,7 @@ fn fill(fragments: &[&[u8]], next: &AtomicUsize, slots: &mut [Option<Grain>])
     }
 }
 
-// The next grain that no thread has taken.
+/// The next grain that no thread has taken.
 fn next_grain(fragments: &[&[u8]], next: &AtomicUsize) -> Option<Grain>
     ensures { IfSome result (IsGrain (map (λ f. sha256 f.now) fragments.now)) }
 {
@@ -172,7 +172,7 @@ fn next_grain(fragments: &[&[u8]], next: &AtomicUsize) -> Option<Grain>
     Some(grain_at(fragments, at))
 }
 
-// The grain of the fragments from one on.
+/// The grain of the fragments from one on.
 fn grain_at(fragments: &[&[u8]], at: usize) -> Grain
     requires { at < length fragments.now }
     ensures { IsGrain (map (λ f. sha256 f.now) fragments.now) result }
@@ -183,7 +183,7 @@ fn grain_at(fragments: &[&[u8]], at: usize) -> Grain
     Grain { at, digests }
 }
 
-// Makes the digests of the fragments from one on, as many as there are places.
+/// Makes the digests of the fragments from one on, as many as there are places.
 fn digests_from(fragments: &[&[u8]], start: usize, digests: &mut [Digest])
     requires { start + length digests.old ≤ length fragments.now }
     ensures { (k : ℕ) → k < length digests.old → slice_index_or digests.new k []
@@ -192,7 +192,7 @@ fn digests_from(fragments: &[&[u8]], start: usize, digests: &mut [Digest])
     sha256_lanes::digests(&fragments[start..start + digests.len()], digests);
 }
 
-// Puts the digests of the grains of fragments at these places.
+/// Puts the digests of the grains of fragments at these places.
 fn place_grains(slots: &[Option<Grain>], places: &[usize], digests: &mut [Option<Digest>])
     ensures len { length digests.new ≡ length digests.old }
     ensures right { (right : List (List ℕ)) → AreGrains (at_each places.now right) slots.now → AreRight right digests.old
@@ -215,7 +215,7 @@ fn place_grain(grain: &Grain, places: &[usize], digests: &mut [Option<Digest>])
     }
 }
 
-// Puts a digest at its place, if there is such a place.
+/// Puts a digest at its place, if there is such a place.
 fn put(digests: &mut [Option<Digest>], place: usize, digest: Digest)
     ensures { digests.new ≡ set digests.old place (Some digest) }
 {
@@ -224,8 +224,8 @@ fn put(digests: &mut [Option<Digest>], place: usize, digest: Digest)
     }
 }
 
-// All digests. Those that no thread made are made here: there are none, since the slots have room for all grains, but no contract says that
-// places differ and grains are all taken.
+/// All digests. Those that no thread made are made here: there are none, since the slots have room for all grains, but no contract says
+/// that places differ and grains are all taken.
 fn complete(
     alloc: Global,
     fragments: &[&[u8]],

@@ -24,7 +24,7 @@ pub struct NamedFile<'a> {
     pub bytes: CowSlice<'a, u8>,
 }
 
-// Adds the fragment of a row's request, where it was rebuilt.
+/// Adds the fragment of a row's request, where it was rebuilt.
 fn push_rebuilt<'a>(
     alloc: Global,
     files: &mut Vec<NamedFile<'a>>,
@@ -48,7 +48,7 @@ fn push_rebuilt<'a>(
     }
 }
 
-// Adds the rebuilt fragments of a rack's rows, then its report.
+/// Adds the rebuilt fragments of a rack's rows, then its report.
 fn push_rows<'a>(
     alloc: Global,
     files: &mut Vec<NamedFile<'a>>,
@@ -70,7 +70,7 @@ fn push_rows<'a>(
     Ok(())
 }
 
-// Adds the files of a rack with these requests, feed by feed.
+/// Adds the files of a rack with these requests, feed by feed.
 fn push_rack<'a>(
     alloc: Global,
     files: &mut Vec<NamedFile<'a>>,

@@ -104,7 +104,7 @@ pub(crate) fn is_wide_request(listed: &Listed) -> bool
     listed.code() != Code::UNNAMED
 }
 
-// Whether one of the requests is of the (12,2,2) code.
+/// Whether one of the requests is of the (12,2,2) code.
 fn has_wide(requests: &[&Listed]) -> bool
     ensures { result ≡ list_any is_wide (map (λ r. r.now) requests.now) }
 {
@@ -116,7 +116,7 @@ fn has_wide(requests: &[&Listed]) -> bool
     false
 }
 
-// The rows of one list's requests.
+/// The rows of one list's requests.
 fn list_rows<'a>(
     alloc: Global,
     requests: &[&'a Listed],
@@ -140,7 +140,7 @@ fn list_rows<'a>(
     Ok(rows)
 }
 
-// The first line.
+/// The first line.
 fn header(shape: ReportShape) -> &'static [u8]
     ensures { result.now ≡ report_line (report_header shape) }
 {
@@ -152,7 +152,7 @@ fn header(shape: ReportShape) -> &'static [u8]
     }
 }
 
-// Writes the line of a row.
+/// Writes the line of a row.
 fn write_row(
     alloc: Global,
     writer: &mut Writer<Vec<u8>>,
@@ -184,14 +184,14 @@ fn write_row(
     write_texts(writer, shape, &texts)
 }
 
-// A number in decimal.
+/// A number in decimal.
 fn decimal_text(alloc: Global, number: u64) -> Result<String, AllocError>
     ensures { IfOk result (λ s. string_bytes s ≡ decimal number) }
 {
     number.to_string(alloc)
 }
 
-// The texts of a row's fields, in the order of a report that has them all.
+/// The texts of a row's fields, in the order of a report that has them all.
 #[derive(Clone, Copy)]
 struct RowTexts<'a> {
     number: &'a [u8],
@@ -205,7 +205,7 @@ struct RowTexts<'a> {
     code: &'a [u8],
 }
 
-// Writes the fields of a row: those of the feed and of the code are among them if they are asked for.
+/// Writes the fields of a row: those of the feed and of the code are among them if they are asked for.
 fn write_texts(
     writer: &mut Writer<Vec<u8>>,
     shape: ReportShape,
@@ -252,7 +252,7 @@ fn write_texts(
     }
 }
 
-// Writes a record.
+/// Writes a record.
 fn write_record(writer: &mut Writer<Vec<u8>>, fields: &[&[u8]]) -> Result<(), AllocError>
     ensures { OnOk result ((text : List ℕ) → HasWritten text writer.old
         → HasWritten (text ++ row_text default_writer (map (λ f. f.now) fields.now)) writer.new) }
@@ -273,7 +273,7 @@ fn outcome_word(outcome: &Outcome) -> &'static [u8]
     }
 }
 
-// A digest in hexadecimal; nothing where there is none.
+/// A digest in hexadecimal; nothing where there is none.
 fn hexadecimal(alloc: Global, digest: Option<Digest>) -> Result<String, AllocError>
     ensures { IfOk result (λ s. string_bytes s ≡ digest_text digest) }
 {
@@ -283,7 +283,7 @@ fn hexadecimal(alloc: Global, digest: Option<Digest>) -> Result<String, AllocErr
     }
 }
 
-// The names of places with one space between two.
+/// The names of places with one space between two.
 fn spaced_names(alloc: Global, places: &[Place]) -> Result<Vec<u8>, AllocError>
     ensures { IfOk result (λ v. v.items ≡ join_with_byte 32 (map name_of places.now)) }
 {
@@ -297,7 +297,7 @@ fn spaced_names(alloc: Global, places: &[Place]) -> Result<Vec<u8>, AllocError>
     Ok(text)
 }
 
-// The digests of the outcomes of rows, made one after the other.
+/// The digests of the outcomes of rows, made one after the other.
 fn digests_of(alloc: Global, rows: &[ReportRow]) -> Result<Vec<Option<Digest>>, AllocError>
     ensures { IfOk result (λ v. v.items ≡ map (λ r. fragment_digest r.outcome.now) rows.now) }
 {

@@ -10,7 +10,7 @@ use farm_lists::ReadRequest;
 use lrc_code::Outcome;
 use std::alloc::{AllocError, Global};
 
-// Whether one of a feed's requests is of the (12,2,2) code.
+/// Whether one of a feed's requests is of the (12,2,2) code.
 fn has_wide(requests: &[ReadRequest]) -> bool
     ensures { result ≡ list_any is_wide_read (map read_of requests.now) }
 {
@@ -22,7 +22,7 @@ fn has_wide(requests: &[ReadRequest]) -> bool
     false
 }
 
-// Whether a request of some feed is of the (12,2,2) code.
+/// Whether a request of some feed is of the (12,2,2) code.
 fn any_wide(requests: &[Vec<ReadRequest>]) -> bool
     ensures { result ≡ list_any (λ rs. list_any is_wide_read rs) (map (λ rs. map read_of rs.items) requests.now) }
 {
@@ -44,7 +44,7 @@ pub(crate) fn rack_shape(requests: &[Vec<ReadRequest>]) -> ReportShape
     }
 }
 
-// The row of an answer to the request at a position of a feed.
+/// The row of an answer to the request at a position of a feed.
 fn answer_row<'a>(
     requests: &'a [Vec<ReadRequest>],
     feed: usize,

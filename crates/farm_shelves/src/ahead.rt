@@ -13,13 +13,13 @@ use std::sync::atomic::{AtomicUsize, Ordering};
 use std::thread::Threads;
 use std::{mem, thread};
 
-// What a file takes to be opened and closed, as the bytes that are read in that time.
+/// What a file takes to be opened and closed, as the bytes that are read in that time.
 const OPENING: u64 = 16_384;
 
-// The least number of bytes for which a thread is started, with what the opening takes.
+/// The least number of bytes for which a thread is started, with what the opening takes.
 const LEAST_PART: u64 = 1_048_576;
 
-// How many parts of the files there are for each thread that reads them.
+/// How many parts of the files there are for each thread that reads them.
 const PARTS_PER_THREAD: usize = 8;
 
 /// A file of a folder that is read ahead: its name, its limit and how far it is.
@@ -30,7 +30,7 @@ pub(crate) struct ReadAhead {
     state: State,
 }
 
-// How far a file is that is read ahead.
+/// How far a file is that is read ahead.
 #[derive(Drop)]
 enum State {
     // It is to be read into this room, or couldn't be opened.
@@ -60,7 +60,7 @@ impl ReadAhead {
         })
     }
 
-    // Whether it is the file of this name, up to this limit.
+    /// Whether it is the file of this name, up to this limit.
     fn is_of(&self, name: &str, limit: usize) -> bool
         ensures { result ≡ true → IsListedAs name.now limit self.now }
     {
@@ -68,8 +68,8 @@ impl ReadAhead {
     }
 }
 
-// The room for a file: the last of these that were read into before, if that file had the length that is listed here (the limit is one
-// more), so that nothing of it is cleared and no memory is taken; else a new one.
+/// The room for a file: the last of these that were read into before, if that file had the length that is listed here (the limit is one
+/// more), so that nothing of it is cleared and no memory is taken; else a new one.
 fn room_for(alloc: Global, limit: usize, rooms: &mut Vec<Vec<u8>>) -> Result<Vec<u8>, AllocError> {
     match rooms.pop() {
         Some(room) if room.len().saturating_add(1) == limit => Ok(room),
@@ -77,7 +77,7 @@ fn room_for(alloc: Global, limit: usize, rooms: &mut Vec<Vec<u8>>) -> Result<Vec
     }
 }
 
-// How many threads are worth their start for these files, of so many at most: each has the least part.
+/// How many threads are worth their start for these files, of so many at most: each has the least part.
 fn worthwhile(files: &[ReadAhead], threads: usize) -> usize
     ensures { 0 < result }
 {
@@ -91,7 +91,7 @@ fn worthwhile(files: &[ReadAhead], threads: usize) -> usize
     parts.min(threads).max(1)
 }
 
-// Files of a folder that are read in parts, each by the thread that takes it.
+/// Files of a folder that are read in parts, each by the thread that takes it.
 #[derive(Drop)]
 struct Parts<'f> {
     alloc: Global,
@@ -100,7 +100,7 @@ struct Parts<'f> {
     next: AtomicUsize,
 }
 
-// The files in parts for so many threads.
+/// The files in parts for so many threads.
 fn parts_of<'f>(
     alloc: Global,
     folder: &'f FolderShelf<HostRuntime>,
@@ -124,9 +124,9 @@ fn parts_of<'f>(
 }
 
 impl<'f> Parts<'f> {
-    // Reads the files of one part after the other, each the next that no thread has taken, so that a thread that comes late or shares its
-    // processor leaves more to the others. Nobody else has a part's lock: if it is refused all the same, its files are read in their
-    // turn, as those are whose path was refused memory.
+    /// Reads the files of one part after the other, each the next that no thread has taken, so that a thread that comes late or shares its
+    /// processor leaves more to the others. Nobody else has a part's lock: if it is refused all the same, its files are read in their
+    /// turn, as those are whose path was refused memory.
     fn read(&self) {
         for _turn in 0..self.parts.len() {
             let Some(part) = self.parts.get(self.next.fetch_add(1, Ordering::SeqCst)) else {
@@ -138,15 +138,15 @@ impl<'f> Parts<'f> {
         }
     }
 
-    // Reads files as `read` does, as work that isn't refused.
+    /// Reads files as `read` does, as work that isn't refused.
     fn read_here(&self) -> Result<(), AllocError> {
         self.read();
         Ok(())
     }
 }
 
-// Does some work in this thread, while so many others read. Each of them is started by this one: beside busy processes a thread waits for
-// its first turn, and one that it starts itself would wait as long once more. A thread that is refused leaves all to the others.
+/// Does some work in this thread, while so many others read. Each of them is started by this one: beside busy processes a thread waits for
+/// its first turn, and one that it starts itself would wait as long once more. A thread that is refused leaves all to the others.
 #[cycle(readers)]
 fn work_while_reading<H: Threads + Sync, T: Drop, E: Drop, F: Fn() -> Result<T, E>>(
     rt: &H,
@@ -215,7 +215,7 @@ pub(crate) fn read_all<R: Threads + Sync>(
     }
 }
 
-// Opens, reads and closes listed files, one after the other, each into its room. Their paths are made in one text, one after the other.
+/// Opens, reads and closes listed files, one after the other, each into its room. Their paths are made in one text, one after the other.
 fn read_each(
     alloc: Global,
     folder: &FolderShelf<HostRuntime>,
@@ -235,7 +235,7 @@ fn read_each(
     Ok(())
 }
 
-// How far a file is that was opened so, once its first bytes are read into this room. A failure says nothing of the file.
+/// How far a file is that was opened so, once its first bytes are read into this room. A failure says nothing of the file.
 fn state_of<F: Read + Drop>(
     opened: Result<Option<F>, ShelfFault>,
     room: Vec<u8>,
@@ -279,7 +279,7 @@ pub(crate) fn take_ahead(
     known_of(next.state)
 }
 
-// What is known of a file by how far it is.
+/// What is known of a file by how far it is.
 fn known_of(state: State) -> Option<Option<Vec<u8>>>
     ensures { option_map (option_map (λ b. b.items)) result ≡ known state }
 {

@@ -58,7 +58,7 @@ impl<R: Drop> FolderShelf<R> {
         path.push_str(name)
     }
 
-    // The path of a file of the folder. Its memory is taken once.
+    /// The path of a file of the folder. Its memory is taken once.
     fn full_path(&self, alloc: Global, name: &str) -> Result<String, AllocError> {
         let room = self.path.len().saturating_add(name.len()).saturating_add(1);
         let mut path = String::with_capacity(alloc, room)?;
@@ -66,7 +66,7 @@ impl<R: Drop> FolderShelf<R> {
         Ok(path)
     }
 
-    // A call's answer, of which a failure of the device is counted.
+    /// A call's answer, of which a failure of the device is counted.
     fn counted<T: Drop>(&mut self, answer: Result<T, ShelfFault>) -> Result<T, ShelfFault>
         requires { folder_failed self.old < 2 ^ 63 }
         ensures same { result ≡ answer }

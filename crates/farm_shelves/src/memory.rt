@@ -67,7 +67,7 @@ impl MemoryShelf {
         self.fails_in = Some(k);
     }
 
-    // Whether the next call is the one that fails.
+    /// Whether the next call is the one that fails.
     fn fails_next(&self) -> bool
         ensures { result ≡ is_due (fails_in self.now) }
     {
@@ -77,7 +77,7 @@ impl MemoryShelf {
         }
     }
 
-    // Counts a call that is refused memory.
+    /// Counts a call that is refused memory.
     fn pass_call(&mut self)
         ensures next { fails_in self.new ≡ due_next (fails_in self.old) }
         ensures files { files_of self.new ≡ files_of self.old }
@@ -90,7 +90,7 @@ impl MemoryShelf {
         };
     }
 
-    // Whether the call at hand is the one that fails; it is counted.
+    /// Whether the call at hand is the one that fails; it is counted.
     fn fails_now(&mut self) -> bool
         requires { failed_of self.old < 2 ^ 63 }
         ensures due { result ≡ is_due (fails_in self.old) }

@@ -10,8 +10,8 @@ use std::alloc::{AllocError, Global};
 use std::mem;
 use std::thread::Threads;
 
-// The memory that is held until files are read ahead. The C library gives free memory back to the system after each batch, unless it
-// has seen a block come back that is as large: it then keeps twice as much. It looks at no block of more than 32 MiB.
+/// The memory that is held until files are read ahead. The C library gives free memory back to the system after each batch, unless it
+/// has seen a block come back that is as large: it then keeps twice as much. It looks at no block of more than 32 MiB.
 const HELD: usize = 25_165_824;
 
 /// A shelf over a folder of the system that reads and writes as a `FolderShelf`, and reads ahead in threads what is named to it. It does so
@@ -22,11 +22,11 @@ const HELD: usize = 25_165_824;
 #[derive(Drop)]
 pub struct ReadAheadShelf {
     folder: FolderShelf<HostRuntime>,
-    // The files that were read ahead, the next one last.
+    /// The files that were read ahead, the next one last.
     ahead: Vec<ReadAhead>,
-    // Memory that files were read into before.
+    /// Memory that files were read into before.
     rooms: Vec<Vec<u8>>,
-    // Given back before the first files are read ahead; nothing is ever in it.
+    /// Given back before the first files are read ahead; nothing is ever in it.
     held: Vec<u8>,
 }
 
@@ -54,7 +54,7 @@ impl ReadAheadShelf {
         })
     }
 
-    // Whether these files were read ahead, by the first of them and their number.
+    /// Whether these files were read ahead, by the first of them and their number.
     fn has_each_ahead(&self, files: &[FileRead]) -> bool {
         match files.first() {
             Some((name, limit)) => self.has_ahead(name.as_str(), *limit, files.len()),
@@ -62,8 +62,8 @@ impl ReadAheadShelf {
         }
     }
 
-    // The files that are to be read ahead, the last one first. What was read ahead before is dropped, and the memory that none of them is
-    // read into.
+    /// The files that are to be read ahead, the last one first. What was read ahead before is dropped, and the memory that none of them is
+    /// read into.
     fn list_ahead(
         &mut self,
         alloc: Global,
@@ -81,7 +81,7 @@ impl ReadAheadShelf {
         Ok(ahead)
     }
 
-    // Does some work while files are read ahead, unless they were or memory is refused for it.
+    /// Does some work while files are read ahead, unless they were or memory is refused for it.
     fn work_beside<H: Threads + Sync, T: Drop, E: Drop, F: Fn() -> Result<T, E>>(
         &mut self,
         rt: &H,

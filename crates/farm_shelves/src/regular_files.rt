@@ -13,10 +13,10 @@ use std::rt::Files;
 /// The room that is taken for the first read, if the limit isn't less. A fragment of the greatest length fits it.
 pub(crate) const FIRST_ROOM: usize = 65_537;
 
-// How often a file is read at most.
+/// How often a file is read at most.
 const READ_TURNS: u32 = 16_777_216;
 
-// What an error of the system is for a reader.
+/// What an error of the system is for a reader.
 fn fault_of(kind: ErrorKind) -> ShelfFault
     ensures { result ≡ kind_fault kind }
 {
@@ -26,8 +26,8 @@ fn fault_of(kind: ErrorKind) -> ShelfFault
     }
 }
 
-// What the system found under a name: there is no such file exactly where it says that it was not found. Any other error is a
-// fault, as too many open files, or links that loop.
+/// What the system found under a name: there is no such file exactly where it says that it was not found. Any other error is a
+/// fault, as too many open files, or links that loop.
 fn if_there<T: Drop>(answer: io::Result<T>) -> Result<Option<T>, ShelfFault>
     ensures { result ≡ found answer }
 {
@@ -68,7 +68,7 @@ pub(crate) fn write_regular<R: Files>(rt: &R, path: &str, bytes: &[u8]) -> Resul
     }
 }
 
-// Replaces the bytes of the regular file at a path. Anything else there is left alone, since opening a FIFO waits for a reader.
+/// Replaces the bytes of the regular file at a path. Anything else there is left alone, since opening a FIFO waits for a reader.
 fn replace_regular<R: Files>(rt: &R, path: &str, bytes: &[u8]) -> Result<(), ShelfFault> {
     match if_there(fs::metadata(rt, path))? {
         Some(metadata) if !metadata.is_file() => return Err(ShelfFault::Device),
@@ -85,7 +85,7 @@ fn replace_regular<R: Files>(rt: &R, path: &str, bytes: &[u8]) -> Result<(), She
     }
 }
 
-// Writes all bytes of an open file. It has changed by then, so any error is the device's: refused memory leaves each file as it was.
+/// Writes all bytes of an open file. It has changed by then, so any error is the device's: refused memory leaves each file as it was.
 fn write_whole<F: Write + Drop>(file: F, bytes: &[u8]) -> Result<(), ShelfFault>
     ensures { IfErr result (λ f. f ≡ fault.Device) }
 {
@@ -132,7 +132,7 @@ pub fn read_front<F: Read + Drop>(
     Err(ShelfFault::Device)
 }
 
-// Reads into the room after the bytes that were read.
+/// Reads into the room after the bytes that were read.
 fn read_at<F: Read>(file: &mut F, bytes: &mut [u8], got: usize) -> io::Result<usize>
     requires { got < length bytes.old }
     ensures front { take got bytes.new ≡ take got bytes.old }
@@ -144,7 +144,7 @@ fn read_at<F: Read>(file: &mut F, bytes: &mut [u8], got: usize) -> io::Result<us
     file.read(&mut bytes[got..])
 }
 
-// Makes room for a read after the bytes that were read, where it is full.
+/// Makes room for a read after the bytes that were read, where it is full.
 fn make_room(bytes: &mut Vec<u8>, got: usize, limit: usize) -> Result<(), ShelfFault>
     requires got { got ≤ length bytes.old.items }
     requires limit { (got < limit) × (length bytes.old.items ≤ limit) }

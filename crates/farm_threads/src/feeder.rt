@@ -108,7 +108,7 @@ impl<'a> Promise<Option<Fed<'a>>> for FeedOf<'a> {
 /// A feeder's thread. It gives nothing where a feeder was refused before it began; its end is ended all the same.
 pub type FeederHandle<'a> = PromisedHandle<Option<Fed<'a>>, FeedOf<'a>>;
 
-// What a feeder does: it feeds its list, unless a feeder was refused before it began.
+/// What a feeder does: it feeds its list, unless a feeder was refused before it began.
 fn feed_with<'a, R: Wait, P: Pause>(shared: &Shared<R, P>, feeder: Feeder<'a>) -> Option<Fed<'a>>
     ensures { IfSome result (LeftBy feeder.entry) }
 {
@@ -139,7 +139,7 @@ fn feed_with<'a, R: Wait, P: Pause>(shared: &Shared<R, P>, feeder: Feeder<'a>) -
     }
 }
 
-// Starts a feeder. Where no thread can be made, its end is ended here.
+/// Starts a feeder. Where no thread can be made, its end is ended here.
 fn start_feeder<'s, 'a: 's, E, R: Threads + Wait + Sync, P: Pause>(
     shared: &'s Shared<'s, R, P>,
     scope: &Scope<'s, E>,

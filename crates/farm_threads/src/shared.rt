@@ -6,8 +6,8 @@ use std::alloc::Global;
 use std::sync::atomic::{AtomicBool, AtomicUsize};
 use std::thread::{Promise, PromisedHandle, Scope, SpawnError};
 
-// The bytes of a thread's stack. The C library keeps the stacks of ended threads for the next ones, 40 MiB at most. Of its own size, 8 MiB,
-// that is five: each further one would be mapped for its thread and unmapped after it, which interrupts all processors.
+/// The bytes of a thread's stack. The C library keeps the stacks of ended threads for the next ones, 40 MiB at most. Of its own size, 8
+/// MiB, that is five: each further one would be mapped for its thread and unmapped after it, which interrupts all processors.
 const STACK: usize = 1_048_576;
 
 /// What a run was called with, and which of its threads was refused.

@@ -21,7 +21,7 @@ use std::sync::Wait;
 use std::sync::atomic::Ordering;
 use std::thread::{Promise, PromisedHandle, Scope, Threads};
 
-// A put end may put fewer items than this.
+/// A put end may put fewer items than this.
 const MOST_PUTS: u64 = 4_294_967_295;
 
 /// What a worker gives back: its ends, the one that puts ended.
@@ -31,7 +31,7 @@ pub struct Worked<'a> {
     pub replies: EndedPut<Reply<'a>>,
 }
 
-// The request's answer, with an arena of its own for whatever memory a plan asks for, which ends here.
+/// The request's answer, with an arena of its own for whatever memory a plan asks for, which ends here.
 fn answer_in_arena(alloc: Global, request: &Request) -> Result<Outcome, AllocError>
     ensures { IfOk result (IsAnswer request.now) }
 {
@@ -98,7 +98,7 @@ pub fn work<'a, R: Wait, P: Pause>(
     }
 }
 
-// Takes nothing and puts the end mark: what a worker does if no thread was made for it.
+/// Takes nothing and puts the end mark: what a worker does if no thread was made for it.
 fn idle<'a, R: Wait>(rt: &R, jobs: TakeEnd<Job<'a>>, replies: PutEnd<Reply<'a>>) -> Worked<'a>
     requires unused { IsUnusedTake jobs × IsUnusedPut replies }
     ensures { HasWorked jobs.entry replies.entry result.jobs result.replies }
@@ -122,7 +122,7 @@ impl<'a> Promise<Worked<'a>> for WorkOf<'a> {
 /// A worker that was started, to be joined.
 pub type WorkerHandle<'a> = PromisedHandle<Worked<'a>, WorkOf<'a>>;
 
-// What the worker of this number does: it works, unless it is the one that no thread was made for.
+/// What the worker of this number does: it works, unless it is the one that no thread was made for.
 fn work_with<'a, R: Wait, P: Pause>(
     shared: &Shared<R, P>,
     number: usize,
@@ -138,7 +138,7 @@ fn work_with<'a, R: Wait, P: Pause>(
     }
 }
 
-// Starts a worker. Where no thread can be made it ends here at once, without work.
+/// Starts a worker. Where no thread can be made it ends here at once, without work.
 fn start_worker<'s, 'a: 's, E, R: Threads + Wait + Sync, P: Pause>(
     shared: &'s Shared<'s, R, P>,
     scope: &Scope<'s, E>,

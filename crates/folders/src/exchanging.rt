@@ -50,8 +50,8 @@ pub fn exchange<F: Folder>(
     })
 }
 
-// Gives the file at a path a second one, or finds that it has that already, as a run that was killed has left it. False if something else
-// is there.
+/// Gives the file at a path a second one, or finds that it has that already, as a run that was killed has left it. False if something else
+/// is there.
 fn keep_at<F: Folder>(folder: &mut F, path: &str, second: &str) -> io::Result<bool>
     ensures asked { WasAsked path.now second.now (F.calls folder.old) (F.calls folder.new) }
     ensures one { path.now ≢ second.now → IfOk result (λ is. is ≡ true → LeadToOne path.now second.now (F.calls folder.new)) }

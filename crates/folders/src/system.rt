@@ -27,7 +27,7 @@ pub struct SystemOpen {
 pub struct SystemNew {
     file: File,
     path: String,
-    // What was called up to the call that made it.
+    /// What was called up to the call that made it.
     made: Record,
     written: Written,
 }
@@ -35,7 +35,7 @@ pub struct SystemNew {
 /// A file of the system that was made and is on the disk.
 #[derive(Drop)]
 pub struct SystemWhole {
-    // Open until then, so that its lock is held.
+    /// Open until then, so that its lock is held.
     _file: File,
     path: String,
     made: Record,

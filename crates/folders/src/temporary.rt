@@ -19,7 +19,7 @@ pub fn create_locked<F: Folder>(folder: &mut F, path: &str, mode: u32) -> io::Re
     }
 }
 
-// The file if it could be locked. After a failure it is removed.
+/// The file if it could be locked. After a failure it is removed.
 fn held<F: Folder>(folder: &mut F, file: F::New, path: &str) -> io::Result<Option<F::New>>
     ensures whenever { KeepsBut path.now (F.calls folder.old) (F.calls folder.new) }
     ensures same { IfOk result (λ o. IfSome o (λ held. held ≡ file)) }

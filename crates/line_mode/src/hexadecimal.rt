@@ -6,13 +6,13 @@ ghost use Rattle.hex.specs.Hex.{decode_of, encode_upper, hex_digit_value, upper_
 
 use std::alloc::{AllocError, Global};
 
-// What no digit is worth.
+/// What no digit is worth.
 const NO_DIGIT: u8 = 255;
 
-// Fewer digits than these are looked up one by one: a loop over many at once is no gain for them.
+/// Fewer digits than these are looked up one by one: a loop over many at once is no gain for them.
 const FEW_DIGITS: usize = 64;
 
-// What each byte is worth as a digit.
+/// What each byte is worth as a digit.
 static DIGIT_VALUES: [u8; 256] = [
     255, 255, 255, 255, 255, 255, 255, 255, 255, 255, 255, 255, 255, 255, 255, 255, 255, 255, 255,
     255, 255, 255, 255, 255, 255, 255, 255, 255, 255, 255, 255, 255, 255, 255, 255, 255, 255, 255,
@@ -48,7 +48,7 @@ pub(crate) fn decode(alloc: Global, text: &[u8]) -> Result<Option<Vec<u8>>, Allo
     }
 }
 
-// Writes the bytes that pairs of digits write, and says whether all are digits.
+/// Writes the bytes that pairs of digits write, and says whether all are digits.
 fn decode_into(text: &[u8], bytes: &mut [u8]) -> bool
     requires { length text.now ≡ 2 * length bytes.old }
     ensures len { length bytes.new ≡ length bytes.old }
@@ -64,7 +64,7 @@ fn decode_into(text: &[u8], bytes: &mut [u8]) -> bool
     greatest < 16
 }
 
-// The bytes of few digits, one pair after the other, up to the first that isn't two digits.
+/// The bytes of few digits, one pair after the other, up to the first that isn't two digits.
 fn decode_few(alloc: Global, text: &[u8]) -> Result<Option<Vec<u8>>, AllocError>
     requires { length text.now % 2 ≡ 0 }
     ensures { IfOk result (λ bytes. option_map (λ v. v.items) bytes ≡ result_ok (decode_of text.now)) }
@@ -81,7 +81,7 @@ fn decode_few(alloc: Global, text: &[u8]) -> Result<Option<Vec<u8>>, AllocError>
     Ok(Some(bytes))
 }
 
-// What a digit is worth, by the table.
+/// What a digit is worth, by the table.
 #[inline]
 fn table_value(digit: u8) -> u8
     ensures { result ≡ unwrap_or (hex_digit_value digit) 255 }
@@ -96,7 +96,7 @@ fn listed_value(digit: u8) -> u8
     DIGIT_VALUES[digit as usize]
 }
 
-// What a digit is worth.
+/// What a digit is worth.
 #[inline]
 fn digit_value(digit: u8) -> u8
     ensures { result ≡ unwrap_or (hex_digit_value digit) 255 }
@@ -126,7 +126,7 @@ pub(crate) fn append_upper(text: &mut Vec<u8>, bytes: &[u8]) -> Result<(), Alloc
     Ok(())
 }
 
-// Writes the digits of bytes into their room, in upper case.
+/// Writes the digits of bytes into their room, in upper case.
 fn encode_into(bytes: &[u8], digits: &mut [u8])
     requires { length digits.old ≡ 2 * length bytes.now }
     ensures { digits.new ≡ encode_upper bytes.now }
@@ -138,7 +138,7 @@ fn encode_into(bytes: &[u8], digits: &mut [u8])
     }
 }
 
-// The digit of a number.
+/// The digit of a number.
 #[inline]
 fn upper_digit(value: u8) -> u8
     requires { value < 16 }

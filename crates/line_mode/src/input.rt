@@ -7,13 +7,13 @@ use crate::outcomes::LineFault;
 use std::alloc::Global;
 use std::io::{ErrorKind, Read};
 
-// The greatest length of an input.
+/// The greatest length of an input.
 const INPUT_LIMIT: usize = 8_388_608;
 
-// How often a reader is asked at most.
+/// How often a reader is asked at most.
 const READ_TURNS: u32 = 16_777_216;
 
-// How many bytes are asked of a reader at once.
+/// How many bytes are asked of a reader at once.
 const BLOCK: usize = 65_536;
 
 /// All that the reader gives; an interrupted read is made again.
@@ -37,7 +37,7 @@ pub(crate) fn read_input<R: Read>(alloc: Global, input: &mut R) -> Result<Vec<u8
     Err(LineFault::Device)
 }
 
-// Adds what a read gave, where the input stays within its limit.
+/// Adds what a read gave, where the input stays within its limit.
 fn add_block(bytes: &mut Vec<u8>, block: &[u8]) -> Result<(), LineFault>
     requires { length bytes.old.items ≤ input_limit }
     ensures added { OnOk result (bytes.new.items ≡ bytes.old.items ++ block.now) }

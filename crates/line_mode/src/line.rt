@@ -60,7 +60,7 @@ pub fn line_mode_in_threads<T: Threads + Sync, R: Read, W: Write>(
     write_replies(output, &replies)
 }
 
-// Writes the text of replies, and gives their counts.
+/// Writes the text of replies, and gives their counts.
 fn write_replies<W: Write>(output: &mut W, replies: &Replies) -> Result<LineCount, LineFault>
     ensures written { IfOk result (λ count. Appends (W.contents output.old) (W.contents output.new) replies.now.text.items
         × (count ≡ replies.now.count)) }

@@ -47,7 +47,7 @@ impl<'a> Iterator for Lines<'a> {
     }
 }
 
-// A line without the carriage return at its end, if it has one.
+/// A line without the carriage return at its end, if it has one.
 fn without_return(line: &[u8]) -> &[u8]
     ensures { result.now ≡ strip_carriage_return line.now }
 {

@@ -18,7 +18,7 @@ use lrc_code::text::parse_number;
 use lrc_code::{Code, Fragment, Place, Request};
 use std::alloc::{AllocError, Global};
 
-// How many survivors a request has at most; with room for them their list needn't grow.
+/// How many survivors a request has at most; with room for them their list needn't grow.
 const MOST_SURVIVORS: usize = 15;
 
 /// The request that a line writes, or why the line is refused.
@@ -46,7 +46,7 @@ pub(crate) fn parse_line(
     }
 }
 
-// A request as a line writes it, before its refusals are tested.
+/// A request as a line writes it, before its refusals are tested.
 #[derive(Drop)]
 struct Parts {
     code: Code,
@@ -56,7 +56,7 @@ struct Parts {
     survivors: Vec<Fragment>,
 }
 
-// The parts of the request that a line writes, where the line has the form of one.
+/// The parts of the request that a line writes, where the line has the form of one.
 fn parse_parts(alloc: Global, line: &[u8]) -> Result<Option<Parts>, AllocError>
     ensures { IfOk result (λ parts. option_map asked_of parts ≡ request_of line.now) }
 {
@@ -79,7 +79,7 @@ fn parse_parts(alloc: Global, line: &[u8]) -> Result<Option<Parts>, AllocError>
     Ok(parts)
 }
 
-// The code that a line's first word names after `code=`.
+/// The code that a line's first word names after `code=`.
 fn parse_line_code(word: &[u8]) -> Option<Code>
     ensures { result ≡ line_code word.now }
 {
@@ -89,7 +89,7 @@ fn parse_line_code(word: &[u8]) -> Option<Code>
     None
 }
 
-// The parts of the request over a code that a stripe's name and the words after it write.
+/// The parts of the request over a code that a stripe's name and the words after it write.
 fn parse_request(
     alloc: Global,
     code: Code,
@@ -118,7 +118,7 @@ fn parse_request(
     }))
 }
 
-// A copy of printable characters.
+/// A copy of printable characters.
 fn copy_text(alloc: Global, text: &[u8]) -> Result<String, AllocError>
     requires { list_all is_printable text.now ≡ true }
     ensures { IfOk result (λ copy. string_bytes copy ≡ text.now) }
@@ -126,7 +126,7 @@ fn copy_text(alloc: Global, text: &[u8]) -> Result<String, AllocError>
     String::from_str(alloc, str::from_utf8(text).unwrap())
 }
 
-// The surviving fragments that words write, where each writes one.
+/// The surviving fragments that words write, where each writes one.
 fn parse_survivors(
     alloc: Global,
     code: Code,
@@ -145,7 +145,7 @@ fn parse_survivors(
     Ok(Some(survivors))
 }
 
-// The surviving fragment that a word writes, as in `x1=0F`.
+/// The surviving fragment that a word writes, as in `x1=0F`.
 fn parse_survivor(alloc: Global, code: Code, word: &[u8]) -> Result<Option<Fragment>, AllocError>
     ensures { IfOk result (λ fragment. option_map survivor_of fragment ≡ survivor code word.now) }
 {

@@ -9,10 +9,10 @@ use crate::scanning::find_byte;
 use std::alloc::{AllocError, Global};
 use std::thread::{Threads, join};
 
-// The least bytes of an input that is cut: of fewer, a piece isn't worth a thread.
+/// The least bytes of an input that is cut: of fewer, a piece isn't worth a thread.
 const LEAST_CUT_BYTES: usize = 262_144;
 
-// How often a piece is cut in two: there are at most four.
+/// How often a piece is cut in two: there are at most four.
 const MOST_CUTS: u8 = 2;
 
 /// The replies to the lines of an input: those of a long one in up to four pieces, each in a thread of its own. Where no thread can be
@@ -28,7 +28,7 @@ pub(crate) fn reply_in_pieces<R: Threads + Sync>(
     reply_in_halves(rt, alloc, input, MOST_CUTS)
 }
 
-// The replies to a piece of an input, which is cut in two, and each half again, until it was cut so often or isn't long.
+/// The replies to a piece of an input, which is cut in two, and each half again, until it was cut so often or isn't long.
 #[cycle(halves)]
 fn reply_in_halves<R: Threads + Sync>(
     rt: &R,
@@ -64,7 +64,7 @@ fn reply_in_halves<R: Threads + Sync>(
     Ok(replies)
 }
 
-// Where an input is cut in two, which is after a line feed, if it is long.
+/// Where an input is cut in two, which is after a line feed, if it is long.
 fn cut_of(input: &[u8]) -> Option<usize>
     ensures { IfSome result (IsCut input.now) }
 {

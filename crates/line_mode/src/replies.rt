@@ -15,7 +15,7 @@ use lrc_code::Outcome;
 use lrc_plan::RememberedPlans;
 use std::alloc::{AllocError, Global};
 
-// The reply to a line.
+/// The reply to a line.
 type LineReply = Result<Outcome, LineRefusal>;
 
 /// Replies one after the other: their text, and how many there are of each kind.
@@ -39,7 +39,7 @@ impl Replies {
         }
     }
 
-    // Adds a reply after the others.
+    /// Adds a reply after the others.
     fn add(&mut self, alloc: Global, reply: &LineReply) -> Result<(), AllocError>
         requires { self.old.count.answered + self.old.count.refused < 2 ^ 63 }
         ensures { OnOk result ((replies : List LineReply) → Holds self.old replies → Holds self.new (replies ++ reply.now ∷ [])) }
@@ -89,7 +89,7 @@ fn is_blank(line: &[u8]) -> bool
     line.iter().all(|b| *b == b' ')
 }
 
-// The reply to a line that isn't blank.
+/// The reply to a line that isn't blank.
 fn reply_to_line(
     alloc: Global,
     plans: &mut RememberedPlans,
@@ -103,7 +103,7 @@ fn reply_to_line(
     }
 }
 
-// Adds a reply's text, without its line feed.
+/// Adds a reply's text, without its line feed.
 fn push_reply(alloc: Global, text: &mut Vec<u8>, reply: &LineReply) -> Result<(), AllocError>
     ensures { OnOk result (text.new.items ≡ text.old.items ++ reply_text reply.now) }
 {

@@ -41,7 +41,7 @@ impl<'a> Iterator for LineWords<'a> {
     }
 }
 
-// The first index of another byte.
+/// The first index of another byte.
 fn find_other(bytes: &[u8], byte: u8) -> Option<usize>
     ensures { result ≡ position (λ b. not (b == byte)) bytes.now }
 {

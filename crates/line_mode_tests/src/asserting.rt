@@ -31,7 +31,7 @@ impl Mode {
     }
 }
 
-// What line mode writes for an input, and what it answers.
+/// What line mode writes for an input, and what it answers.
 fn run<T: Threads + Sync>(
     rt: &T,
     mode: Mode,
@@ -62,8 +62,8 @@ pub(crate) fn assert_replies(
     }
 }
 
-// Asserts what is written for an input. Such assertions are in functions of their own: a function that has values to drop is proved faster
-// if it calls them than if it asserts itself.
+/// Asserts what is written for an input. Such assertions are in functions of their own: a function that has values to drop is proved faster
+/// if it calls them than if it asserts itself.
 fn assert_written(rt: &impl Abort, input: &[u8], output: &[u8], text: &[u8]) {
     assert!(rt;
         output == text,
@@ -91,7 +91,7 @@ pub(crate) fn assert_reply(
     Ok(())
 }
 
-// A line with its line feed.
+/// A line with its line feed.
 fn ended(alloc: Global, line: &[u8]) -> Result<Vec<u8>, AllocError> {
     let mut text = Vec::from_slice(alloc, line)?;
     text.push(b'\n')?;

@@ -6,7 +6,7 @@ use std::io::{ErrorKind, Read, Write};
 use std::process::Abort;
 use std::thread::Threads;
 
-// The input of the program's stored run, whose ten lines are all answered.
+/// The input of the program's stored run, whose ten lines are all answered.
 const TEN_LINES: &[u8] = b"a x0 1 x1=02 x2=03 px=00\n\
 a y0 1 x0=01 x1=02 x2=03 y1=05 y2=06 px=00 p0=04 p1=6E\n\
 a x0 1 x2=03 y2=06 px=00 py=07 p0=04 p1=6E\n\
@@ -29,14 +29,14 @@ contradiction\n\
 several\n\
 several\n";
 
-// Whether each call of a device works, or which one fails, and how.
+/// Whether each call of a device works, or which one fails, and how.
 #[derive(Clone, Copy)]
 enum Calls {
     AllWork,
     OneFails(u64, ErrorKind),
 }
 
-// A reader that gives at most so many bytes at each call, and fails at one call.
+/// A reader that gives at most so many bytes at each call, and fails at one call.
 #[derive(Drop)]
 struct PieceReader<'a> {
     rest: &'a [u8],
@@ -45,7 +45,7 @@ struct PieceReader<'a> {
     rule: Calls,
 }
 
-// Counts a call, and fails where it is the one that does.
+/// Counts a call, and fails where it is the one that does.
 fn count_call(calls: &mut u64, rule: Calls) -> io::Result<()> {
     let number = *calls;
     *calls = number.saturating_add(1);
@@ -65,8 +65,8 @@ impl Read for PieceReader<'_> {
     }
 }
 
-// A writer that takes at most so many bytes at each call, and fails at one call; a flush counts as a call. How much was
-// flushed is kept.
+/// A writer that takes at most so many bytes at each call, and fails at one call; a flush counts as a call. How much was
+/// flushed is kept.
 #[derive(Drop)]
 struct PieceWriter {
     text: Vec<u8>,
@@ -91,7 +91,7 @@ impl Write for PieceWriter {
     }
 }
 
-// What a run of line mode over the ten lines left.
+/// What a run of line mode over the ten lines left.
 #[derive(Drop)]
 struct Run {
     text: Vec<u8>,
@@ -101,7 +101,7 @@ struct Run {
     writes: u64,
 }
 
-// Line mode over the ten lines, by devices that move so many bytes at a call.
+/// Line mode over the ten lines, by devices that move so many bytes at a call.
 fn run_ten(
     rt: &(impl AllocGlobal + Threads + Sync),
     mode: Mode,
@@ -138,13 +138,13 @@ const ALL_ANSWERED: Result<LineCount, LineFault> = Ok(LineCount {
     refused: 0,
 });
 
-// Asserts that a run wrote all replies and answers so.
+/// Asserts that a run wrote all replies and answers so.
 fn assert_whole(rt: &(impl Abort + AllocGlobal), run: &Run) {
     assert_same(rt, &str::from_utf8(&run.text), &str::from_utf8(TEN_REPLIES));
     assert_same(rt, &run.answer, &ALL_ANSWERED);
 }
 
-// All is flushed, and nothing is read but the pieces and the end.
+/// All is flushed, and nothing is read but the pieces and the end.
 #[test]
 fn takes_small_pieces(rt: HostRuntime) {
     for mode in MODES {
@@ -158,24 +158,24 @@ fn takes_small_pieces(rt: HostRuntime) {
     }
 }
 
-// Whether a run ended at a fault of a device.
+/// Whether a run ended at a fault of a device.
 fn is_faulty(run: &Run) -> bool {
     run.answer == Err(LineFault::Device) && line_status(&run.answer) == 3
 }
 
-// Asserts that a run ended so, and so many bytes, writes and reads of it.
+/// Asserts that a run ended so, and so many bytes, writes and reads of it.
 fn assert_faulty_read(rt: &impl Abort, mode: Mode, run: &Run, reads: u64) {
     let is = is_faulty(run) && run.text.is_empty() && run.writes == 0 && run.reads == reads;
     assert!(rt; is, "{mode:?} {reads} reads");
 }
 
-// Asserts that a run ended so at a write, what it wrote, and how often.
+/// Asserts that a run ended so at a write, what it wrote, and how often.
 fn assert_faulty_write(rt: &impl Abort, mode: Mode, run: &Run, writes: u64) {
     let is = is_faulty(run) && TEN_REPLIES.starts_with(&run.text) && run.writes == writes;
     assert!(rt; is, "{mode:?} {writes} writes");
 }
 
-// Asserts that a read that fails, whichever it is, ends line mode, is not made again, and leaves the writer alone.
+/// Asserts that a read that fails, whichever it is, ends line mode, is not made again, and leaves the writer alone.
 fn assert_ends_at_reads(rt: &(impl Abort + AllocGlobal + Threads + Sync), mode: Mode, most: usize) {
     let whole = run_ten(rt, mode, most, Calls::AllWork, Calls::AllWork);
     assert_same(rt, &(1 < whole.reads), &true);
@@ -195,7 +195,7 @@ fn ends_at_failed_reads(rt: HostRuntime) {
     }
 }
 
-// Asserts that a write or a flush that fails, whichever it is, ends line mode and is not made again.
+/// Asserts that a write or a flush that fails, whichever it is, ends line mode and is not made again.
 fn assert_ends_at_writes(
     rt: &(impl Abort + AllocGlobal + Threads + Sync),
     mode: Mode,
@@ -219,7 +219,7 @@ fn ends_at_failed_writes(rt: HostRuntime) {
     }
 }
 
-// A read or a write that is interrupted is made again.
+/// A read or a write that is interrupted is made again.
 #[test]
 fn goes_on_after_interruptions(rt: HostRuntime) {
     for mode in MODES {
@@ -232,7 +232,7 @@ fn goes_on_after_interruptions(rt: HostRuntime) {
     }
 }
 
-// A reader whose calls are always interrupted, and how many there were.
+/// A reader whose calls are always interrupted, and how many there were.
 #[derive(Drop)]
 struct InterruptedReader {
     calls: u64,
@@ -245,8 +245,8 @@ impl Read for InterruptedReader {
     }
 }
 
-// Line mode ends for a reader that never gives anything, after 16,777,216 reads and no more. In one mode, for its time: both read by one
-// call.
+/// Line mode ends for a reader that never gives anything, after 16,777,216 reads and no more. In one mode, for its time: both read by one
+/// call.
 #[test]
 fn ends_for_an_interrupted_reader(rt: HostRuntime) {
     let mut input = InterruptedReader { calls: 0 };

@@ -4,15 +4,15 @@ use std::alloc::{AllocError, Global};
 use std::process::Abort;
 use std::thread::Threads;
 
-// Lengths around those that are read at once.
+/// Lengths around those that are read at once.
 const LENGTHS: [usize; 14] = [1, 2, 7, 8, 9, 15, 16, 17, 31, 32, 33, 64, 65, 127];
 
-// The digits, in either case, and as they are written.
+/// The digits, in either case, and as they are written.
 const GIVEN: &str = "0123456789abcdefABCDEF";
 
 const WRITTEN: &str = "0123456789ABCDEFABCDEF";
 
-// So many characters of a text that begins anew at its end.
+/// So many characters of a text that begins anew at its end.
 fn cycled(alloc: Global, text: &str, count: usize) -> Result<String, AllocError> {
     let mut cycled = String::new(alloc);
     for c in text.chars().cycle().take(count) {
@@ -21,20 +21,20 @@ fn cycled(alloc: Global, text: &str, count: usize) -> Result<String, AllocError>
     Ok(cycled)
 }
 
-// A line of digits at this length.
+/// A line of digits at this length.
 fn line_of(alloc: Global, length: usize) -> Result<String, AllocError> {
     let zeros = cycled(alloc, "0", length.wrapping_mul(2))?;
     let digits = cycled(alloc, GIVEN, length.wrapping_mul(2))?;
     Ok(format!(in alloc; "a x0 {length} x1={zeros} x2={zeros} px={digits}\n")?)
 }
 
-// The reply to it.
+/// The reply to it.
 fn reply_of(alloc: Global, length: usize) -> Result<String, AllocError> {
     let written = cycled(alloc, WRITTEN, length.wrapping_mul(2))?;
     Ok(format!(in alloc; "rebuilt {written}\n")?)
 }
 
-// Asserts that digits are read and written at this length.
+/// Asserts that digits are read and written at this length.
 fn assert_digits(
     rt: &(impl Abort + AllocGlobal + Threads + Sync),
     length: usize,
@@ -53,7 +53,7 @@ fn digits_are_read_and_written_at_many_lengths(rt: HostRuntime) -> Result<(), Al
     Ok(())
 }
 
-// A character that is no digit is found at each index.
+/// A character that is no digit is found at each index.
 #[test]
 fn a_bad_digit_is_refused_at_each_place(rt: HostRuntime) -> Result<(), AllocError> {
     let digits = cycled(rt.alloc(), GIVEN, 80)?;
@@ -64,7 +64,7 @@ fn a_bad_digit_is_refused_at_each_place(rt: HostRuntime) -> Result<(), AllocErro
     Ok(())
 }
 
-// A line with these digits, of which the one at a place is no digit.
+/// A line with these digits, of which the one at a place is no digit.
 fn line_with_bad_digit(alloc: Global, digits: &str, place: usize) -> Result<Vec<u8>, AllocError> {
     let mut line = Vec::from_slice(alloc, b"a x0 40 px=")?;
     line.extend_from_slice(digits.as_bytes())?;
@@ -75,7 +75,7 @@ fn line_with_bad_digit(alloc: Global, digits: &str, place: usize) -> Result<Vec<
     Ok(line)
 }
 
-// Asserts that a byte is read as a digit just where it is one.
+/// Asserts that a byte is read as a digit just where it is one.
 fn assert_digit(
     rt: &(impl Abort + AllocGlobal + Threads + Sync),
     byte: u8,
@@ -90,7 +90,7 @@ fn assert_digit(
     Ok(())
 }
 
-// A line that ends in this byte.
+/// A line that ends in this byte.
 fn ending(alloc: Global, front: &[u8], byte: u8) -> Result<Vec<u8>, AllocError> {
     let mut line = Vec::from_slice(alloc, front)?;
     line.push(byte)?;
@@ -98,7 +98,7 @@ fn ending(alloc: Global, front: &[u8], byte: u8) -> Result<Vec<u8>, AllocError> 
     Ok(line)
 }
 
-// Of all bytes the 22 digits are digits, and no other.
+/// Of all bytes the 22 digits are digits, and no other.
 #[test]
 fn digits_alone_are_read_as_digits(rt: HostRuntime) -> Result<(), AllocError> {
     for byte in 0..=255u8 {

@@ -7,13 +7,13 @@ use std::io::Read;
 use std::process::Abort;
 use std::thread::Threads;
 
-// The greatest length of an input.
+/// The greatest length of an input.
 const GREATEST: usize = 8_388_608;
 
-// How many bytes are asked of a reader at once.
+/// How many bytes are asked of a reader at once.
 const BLOCK: usize = 65_536;
 
-// A reader that gives a byte so many times, at most so often at each call, and counts the calls.
+/// A reader that gives a byte so many times, at most so often at each call, and counts the calls.
 #[derive(Drop)]
 struct Bytes {
     byte: u8,
@@ -32,7 +32,7 @@ impl Read for Bytes {
     }
 }
 
-// Asserts what line mode answers to a reader, that it writes nothing, and that it reads so often at most.
+/// Asserts what line mode answers to a reader, that it writes nothing, and that it reads so often at most.
 fn assert_answer(
     rt: &(impl Abort + AllocGlobal + Threads + Sync),
     mode: Mode,
@@ -51,7 +51,7 @@ fn assert_answer(
     );
 }
 
-// Asserts that the greatest input is read, and one byte more refused, by a reader that gives a byte so often at each call.
+/// Asserts that the greatest input is read, and one byte more refused, by a reader that gives a byte so often at each call.
 fn assert_limit(
     rt: &(impl Abort + AllocGlobal + Threads + Sync),
     mode: Mode,
@@ -75,19 +75,19 @@ fn assert_limit(
     }
 }
 
-// However few bytes a call gives: here one.
+/// However few bytes a call gives: here one.
 #[test]
 fn line_feeds_stop_past_the_limit(rt: HostRuntime) {
     assert_limit(&rt, Mode::Alone, b'\n', 1, GREATEST + 1);
 }
 
-// No more often than whole blocks ask for.
+/// No more often than whole blocks ask for.
 #[test]
 fn stops_past_the_limit(rt: HostRuntime) {
     assert_limit(&rt, Mode::InThreads, b' ', 1_000_000, GREATEST / BLOCK + 1);
 }
 
-// Adds a text so many times.
+/// Adds a text so many times.
 fn add_times(line: &mut Vec<u8>, text: &[u8], times: usize) -> Result<(), AllocError> {
     for _ in 0..times {
         line.extend_from_slice(text)?;
@@ -95,13 +95,13 @@ fn add_times(line: &mut Vec<u8>, text: &[u8], times: usize) -> Result<(), AllocE
     Ok(())
 }
 
-// Adds a place and its bytes of the greatest length, all the same.
+/// Adds a place and its bytes of the greatest length, all the same.
 fn add_fragment(line: &mut Vec<u8>, place: &[u8], byte: &[u8]) -> Result<(), AllocError> {
     line.extend_from_slice(place)?;
     add_times(line, byte, 65_536)
 }
 
-// Fragments of the greatest length: A5 + 5A + FF is 00 at each position.
+/// Fragments of the greatest length: A5 + 5A + FF is 00 at each position.
 #[test]
 fn answers_long_fragments(rt: HostRuntime) -> Result<(), AllocError> {
     let line = long_line(rt.alloc())?;
@@ -136,7 +136,7 @@ static LONG_LINES: [(&[u8], &[u8], usize, &[u8]); 8] = [
     (b"a x0 1", b"\0", 1_000_000, b"refused E22\n"),
 ];
 
-// Long lines that are refused: each repeats a piece after its front many times.
+/// Long lines that are refused: each repeats a piece after its front many times.
 #[test]
 fn refuses_long_lines(rt: HostRuntime) -> Result<(), AllocError> {
     for (front, piece, times, reply) in &LONG_LINES {

@@ -6,7 +6,7 @@ use line_mode::{LineCount, LineFault, line_mode, line_status};
 use std::alloc::Global;
 use std::io::{Read, Write};
 
-// How many lines were answered and refused, unless there is a fault, and the status.
+/// How many lines were answered and refused, unless there is a fault, and the status.
 fn counted<R: Read, W: Write>(
     alloc: Global,
     input: &mut R,
@@ -20,7 +20,7 @@ fn counted<R: Read, W: Write>(
     (counts, line_status(&answer))
 }
 
-// Whether arguments ask for something: they ask for nothing else, and are refused for nothing else.
+/// Whether arguments ask for something: they ask for nothing else, and are refused for nothing else.
 fn are_asking(read: &Result<Words, WordsFault>) -> bool {
     match read {
         Ok(Words::Lines | Words::Help(_)) => true,
@@ -45,7 +45,7 @@ fn line_mode_and_the_command_line_have_their_names(rt: HostRuntime) {
     assert_same(&rt, &are_nothing_asked(rt.alloc()), &true);
 }
 
-// Whether no arguments ask for something.
+/// Whether no arguments ask for something.
 fn are_nothing_asked(alloc: Global) -> bool {
     let arguments = Vec::new(alloc);
     are_asking(&read_words(alloc, arguments.as_slice()))

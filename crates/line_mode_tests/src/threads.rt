@@ -6,7 +6,7 @@ use std::fmt::Write;
 use std::process::Abort;
 use std::thread::Threads;
 
-// So many lines, of which every third is refused, and their replies. The reply to each line differs from that to the next.
+/// So many lines, of which every third is refused, and their replies. The reply to each line differs from that to the next.
 fn numbered(alloc: Global, count: u32) -> Result<(String, String), AllocError> {
     let mut lines = String::new(alloc);
     let mut replies = String::new(alloc);
@@ -23,7 +23,7 @@ fn numbered(alloc: Global, count: u32) -> Result<(String, String), AllocError> {
     Ok((lines, replies))
 }
 
-// Asserts the replies to an input.
+/// Asserts the replies to an input.
 fn assert_replies_in<R: Threads + Abort + Sync>(
     rt: &R,
     alloc: Global,
@@ -38,7 +38,7 @@ fn assert_replies_in<R: Threads + Abort + Sync>(
     assert_same(rt, &answer, &Ok(count));
 }
 
-// Of 300 lines, and of so many that there are two pieces, three or four.
+/// Of 300 lines, and of so many that there are two pieces, three or four.
 #[test]
 fn long_inputs_keep_the_order_of_their_lines(rt: HostRuntime) -> Result<(), AllocError> {
     for thirds in [100u32, 5_000, 10_000, 20_000] {
@@ -60,7 +60,7 @@ fn long_input(alloc: Global) -> Result<String, AllocError> {
     Ok(input)
 }
 
-// A line that goes on past the middle of a long input, to its end or almost.
+/// A line that goes on past the middle of a long input, to its end or almost.
 #[test]
 fn long_lines_are_not_cut(rt: HostRuntime) -> Result<(), AllocError> {
     let mut input = long_input(rt.alloc())?;

@@ -4,7 +4,7 @@ use command_line::{Words, WordsFault, read_words};
 use std::alloc::{AllocError, Global};
 use std::process::Abort;
 
-// What arguments ask for.
+/// What arguments ask for.
 fn read(alloc: Global, arguments: &[&str]) -> Result<Words, WordsFault> {
     read_words(alloc, strings(alloc, arguments)?.as_slice())
 }
@@ -17,7 +17,7 @@ fn strings(alloc: Global, arguments: &[&str]) -> Result<Vec<String>, AllocError>
     Ok(strings)
 }
 
-// Asserts that arguments ask to serve the folder `a` into the folder `b`, with so many workers and a queue of that capacity.
+/// Asserts that arguments ask to serve the folder `a` into the folder `b`, with so many workers and a queue of that capacity.
 fn assert_farm(rt: &(impl Abort + AllocGlobal), arguments: &[&str], wanted: (usize, usize)) {
     match read(rt.alloc(), arguments) {
         Ok(
@@ -35,17 +35,17 @@ fn assert_farm(rt: &(impl Abort + AllocGlobal), arguments: &[&str], wanted: (usi
     }
 }
 
-// Asserts that these are the two folders.
+/// Asserts that these are the two folders.
 fn assert_between(rt: &impl Abort, input: &str, output: &str) {
     assert!(rt; input == "a" && output == "b", "{input} {output}");
 }
 
-// Asserts that the text that arguments have shown is this.
+/// Asserts that the text that arguments have shown is this.
 fn assert_shown(rt: &impl Abort, arguments: &[&str], shown: &str, text: &str) {
     assert!(rt; shown == text, "{arguments:?}: {shown}");
 }
 
-// Asserts that arguments are a mistake that is reported by this text.
+/// Asserts that arguments are a mistake that is reported by this text.
 fn assert_mistaken(rt: &(impl Abort + AllocGlobal), arguments: &[&str], text: &str) {
     match read(rt.alloc(), arguments) {
         Err(WordsFault::Usage(shown)) => assert_shown(rt, arguments, shown.as_str(), text),
@@ -53,7 +53,7 @@ fn assert_mistaken(rt: &(impl Abort + AllocGlobal), arguments: &[&str], text: &s
     }
 }
 
-// Asserts that arguments ask for this text.
+/// Asserts that arguments ask for this text.
 fn assert_text(rt: &(impl Abort + AllocGlobal), arguments: &[&str], text: &str) {
     match read(rt.alloc(), arguments) {
         Ok(Words::Help(shown)) => assert_shown(rt, arguments, shown.as_str(), text),
@@ -66,8 +66,8 @@ fn no_arguments_are_line_mode(rt: HostRuntime) {
     assert!(&rt; matches!(read(rt.alloc(), &[]), Ok(Words::Lines)));
 }
 
-// Arguments, and the numbers of workers and the capacities of the queue that they ask for. Options may be anywhere. Numbers out of a farm's
-// limits are read; the settings refuse them.
+/// Arguments, and the numbers of workers and the capacities of the queue that they ask for. Options may be anywhere. Numbers out of a
+/// farm's limits are read; the settings refuse them.
 const FARMS: &[(&[&str], (usize, usize))] = &[
     (&["farm", "a", "b"], (4, 16)),
     (&["farm", "a", "b", "--workers", "2"], (2, 16)),

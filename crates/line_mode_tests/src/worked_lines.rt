@@ -3,7 +3,7 @@ use crate::asserting::{assert_replies, assert_reply, assert_same};
 use line_mode::{LineFault, line_status};
 use std::alloc::AllocError;
 
-// Lines that are answered, and their answers. Stripe a has the data 01 02 03 04 05 06.
+/// Lines that are answered, and their answers. Stripe a has the data 01 02 03 04 05 06.
 static ANSWERED: [(&[u8], &[u8]); 24] = [
     // The other three of a group give the lost one.
     (b"a x0 1 x1=02 x2=03 px=00", b"rebuilt 01"),
@@ -74,7 +74,7 @@ static ANSWERED: [(&[u8], &[u8]); 24] = [
     (b"code=6-2-2 a x0 1 x1=02 x2=03 px=00", b"rebuilt 01"),
 ];
 
-// Lines that are refused, and by which number.
+/// Lines that are refused, and by which number.
 static REFUSED: [(&[u8], &[u8]); 47] = [
     (b"b x3 1", b"refused E22"),
     (b"code=6-2-2 b x3 1", b"refused E22"),
@@ -146,7 +146,7 @@ fn refuses_lines(rt: HostRuntime) -> Result<(), AllocError> {
     Ok(())
 }
 
-// How an input is cut into lines, and which of them get a reply.
+/// How an input is cut into lines, and which of them get a reply.
 #[test]
 fn cuts_lines(rt: HostRuntime) {
     assert_replies(&rt, b"", b"", 0, 0);
@@ -163,7 +163,7 @@ fn cuts_lines(rt: HostRuntime) {
     assert_replies(&rt, b" \r\r\n", b"refused E22\n", 0, 1);
 }
 
-// Each fault, its text, its number and its status.
+/// Each fault, its text, its number and its status.
 const FAULTS: [(LineFault, &str, u8, u8); 3] = [
     (LineFault::InputTooLong, "the input is too long", 25, 1),
     (LineFault::Device, "a read or a write failed", 24, 3),

@@ -32,7 +32,7 @@ pub(crate) fn place_at(i: usize) -> Place
     Place::from_index(i).unwrap()
 }
 
-// Whether a bit is set.
+/// Whether a bit is set.
 fn has_bit(mask: u32, i: usize) -> bool
     requires { i < 16 }
     ensures { result ≡ (bit_at mask i == 1) }
@@ -67,7 +67,7 @@ pub(crate) fn bits_of(set: PlaceSet) -> u32
     u32::from(bits)
 }
 
-// Whether a place, if it is in the set, is one of the code's and has so many bytes.
+/// Whether a place, if it is in the set, is one of the code's and has so many bytes.
 fn is_whole_at(code: Code, set: PlaceSet, at: &[Lent; 16], len: usize, place: Place) -> bool
     ensures { result ≡ is_whole_at code (is_in set) (lent at.now) len place }
 {

@@ -58,7 +58,7 @@ pub(crate) fn write_if_zero(
     write_checked(&checked, wants, a, b, c, d)
 }
 
-// Whether the bytes at the places of a set are those of a stripe.
+/// Whether the bytes at the places of a set are those of a stripe.
 fn is_possible(code: Code, set: PlaceSet, at: &[Lent; 16], len: usize) -> bool
     requires { AreWhole code (is_in set) (lent at.now) len }
     ensures yes { result ≡ true → IsPossible (tables_of code) (is_in set) (at_place (lent at.now)) len }

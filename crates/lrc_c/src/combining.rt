@@ -36,7 +36,7 @@ pub(crate) fn are_used(coefficients: &[Gf], at: &[Lent], len: usize) -> bool
     true
 }
 
-// Whether the bytes at an index have the length where their coefficient isn't 00.
+/// Whether the bytes at an index have the length where their coefficient isn't 00.
 fn is_used_at(coefficients: &[Gf], at: &[Lent], k: usize, len: usize) -> bool
     requires { k < length coefficients.now }
     ensures { IsTrue result ↔ IsUsedAt coefficients.now (lent at.now) len k }

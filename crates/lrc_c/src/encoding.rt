@@ -16,7 +16,7 @@ use crate::windows::{Checks, Couple, Wants, write_checked};
 use lrc_code::{Code, ParityRows};
 use lrc_field::{no_pairs, no_terms, pairs_in, terms_in};
 
-// Whether each slice has so many bytes.
+/// Whether each slice has so many bytes.
 fn have_length(sources: &[Lent], len: usize) -> bool
     ensures { IsTrue result ↔ HaveLength len (lent sources.now) }
 {
@@ -28,7 +28,7 @@ fn have_length(sources: &[Lent], len: usize) -> bool
     true
 }
 
-// The four parities of a code's data fragments.
+/// The four parities of a code's data fragments.
 fn encode_parities(
     code: Code,
     sources: &[Lent],
@@ -47,7 +47,7 @@ fn encode_parities(
     write_parities(&code.parities(), sources, px, py, p0, p1);
 }
 
-// The four parities of data fragments, in one pass, with as many coefficients of each row as there are fragments.
+/// The four parities of data fragments, in one pass, with as many coefficients of each row as there are fragments.
 fn write_parities(
     rows: &ParityRows,
     sources: &[Lent],
@@ -86,7 +86,7 @@ fn write_parities(
     write_all(&wants, len, px, py, p0, p1);
 }
 
-// Writes what is wanted over a length, without checks.
+/// Writes what is wanted over a length, without checks.
 fn write_all(wants: &Wants, len: usize, a: &mut [u8], b: &mut [u8], c: &mut [u8], d: &mut [u8])
     requires { AreRooms len wants.now (length a.old) (length b.old) (length c.old) (length d.old) }
     ensures { AreWritten wants.now len a.new b.new c.new d.new }

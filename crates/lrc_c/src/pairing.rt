@@ -8,11 +8,11 @@ use lrc_field::{Gf, Pair, combine_pairs_into};
 /// Pairs are written over at least so many bytes at once.
 pub(crate) const LEAST_PAIRED_BYTES: usize = 96;
 
-// What the products of a pair of coefficients cost, in the unit of `cost`.
+/// What the products of a pair of coefficients cost, in the unit of `cost`.
 const PAIR_COST: usize = 13;
 
-// What the products of one coefficient cost alone, in eighths of what they cost where it is neither 0 nor 1. These are times that were
-// measured; a wrong one makes a call slower.
+/// What the products of one coefficient cost alone, in eighths of what they cost where it is neither 0 nor 1. These are times that were
+/// measured; a wrong one makes a call slower.
 fn cost(coefficient: Gf) -> usize
     ensures { result ≤ 8 }
 {

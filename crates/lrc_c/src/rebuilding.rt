@@ -29,7 +29,7 @@ pub enum Answer {
     Several,
 }
 
-// The answer for a lost target; its bytes are written if they are rebuilt.
+/// The answer for a lost target; its bytes are written if they are rebuilt.
 fn rebuild(code: Code, set: PlaceSet, at: &[Lent; 16], target: Place, out: &mut [u8]) -> Answer
     requires some { 0 < length out.old }
     requires whole { AreWhole code (is_in set) (lent at.now) (length out.old) }
@@ -54,7 +54,7 @@ fn rebuild(code: Code, set: PlaceSet, at: &[Lent; 16], target: Place, out: &mut 
     Answer::Rebuilt
 }
 
-// Tests the checks, and writes a row's combination in the same pass.
+/// Tests the checks, and writes a row's combination in the same pass.
 fn write_value(checks: &CheckRows, row: &[Gf; 16], out: &mut [u8]) -> bool
     requires len { length out.old ≡ checks.now.len }
     requires checks { All (λ row. AreUsed row (lent checks.now.at.now) checks.now.len) checks.now.rows }

@@ -40,7 +40,7 @@ pub enum Aim {
     Sums([Gf; 16]),
 }
 
-// The survivors of a stripe, whose bytes are lent and have a length.
+/// The survivors of a stripe, whose bytes are lent and have a length.
 #[derive(Clone, Copy)]
 struct Survivors<'s, 'a> {
     code: Code,
@@ -49,7 +49,7 @@ struct Survivors<'s, 'a> {
     len: usize,
 }
 
-// The target of a number, where that is none, or a lost place of the code whose room has the length.
+/// The target of a number, where that is none, or a lost place of the code whose room has the length.
 fn target_of(code: Code, set: PlaceSet, number: u8, room: usize, len: usize) -> Option<Target>
     ensures { MatchOption result (¬ IsAsked code (is_in set) len number room) (IsTargetOf code (is_in set) len number room) }
 {
@@ -71,7 +71,7 @@ fn target_of(code: Code, set: PlaceSet, number: u8, room: usize, len: usize) -> 
     Some(Target::Lost(place))
 }
 
-// The targets of four numbers, each with its room.
+/// The targets of four numbers, each with its room.
 fn targets_of(
     code: Code,
     set: PlaceSet,
@@ -89,7 +89,7 @@ fn targets_of(
     Some([first, second, third, fourth])
 }
 
-// What the plan of a target asks for, and the terms of its combination, which are written at the start of the room.
+/// What the plan of a target asks for, and the terms of its combination, which are written at the start of the room.
 fn aim_of<'s, 'a>(
     survivors: &Survivors<'_, 'a>,
     reduced: &Reduced,
@@ -115,7 +115,7 @@ fn aim_of<'s, 'a>(
     (Aim::Sums(row), terms_in(room, &row, at))
 }
 
-// The terms, if they are those of a combination.
+/// The terms, if they are those of a combination.
 fn wanted_of<'s, 'a>(aim: Aim, terms: &'s [Term<'a>]) -> Option<&'s [Term<'a>]>
     ensures { IsWantedOf aim terms.entry.now result }
 {
@@ -125,8 +125,8 @@ fn wanted_of<'s, 'a>(aim: Aim, terms: &'s [Term<'a>]) -> Option<&'s [Term<'a>]>
     }
 }
 
-// The pairs of two targets' combinations, which are written at the start of the room: none where a target has no combination, or where
-// the two have so little in common that each is faster alone.
+/// The pairs of two targets' combinations, which are written at the start of the room: none where a target has no combination, or where
+/// the two have so little in common that each is faster alone.
 fn pairs_of<'s, 'a>(
     survivors: &Survivors<'_, 'a>,
     one: &Aim,
@@ -151,7 +151,7 @@ fn pairs_of<'s, 'a>(
     pairs_in(room, first, second, at)
 }
 
-// The number that C gets for a target, by whether the checks are 00.
+/// The number that C gets for a target, by whether the checks are 00.
 fn status_at(aim: &Aim, possible: bool) -> u32
     ensures { result ≡ status_at aim.now possible }
 {
@@ -162,7 +162,7 @@ fn status_at(aim: &Aim, possible: bool) -> u32
     }
 }
 
-// The statuses of four targets; the bytes of those that are rebuilt are written.
+/// The statuses of four targets; the bytes of those that are rebuilt are written.
 fn rebuild_four(
     survivors: &Survivors,
     targets: [Target; 4],

@@ -17,7 +17,7 @@ use crate::statuses::{BAD_ARGUMENT, DONE};
 use lrc_code::{Code, Place};
 use lrc_field::{Gf, scale_add_into};
 
-// Whether a place is a parity's.
+/// Whether a place is a parity's.
 fn is_parity(place: Place) -> bool
     ensures { result ≡ is_parity place }
 {
@@ -27,7 +27,7 @@ fn is_parity(place: Place) -> bool
     }
 }
 
-// The code's data place of an index.
+/// The code's data place of an index.
 fn data_place(code: Code, index: u8) -> Option<Place>
     ensures { MatchOption result
         ((p : Place) → index_of p ≡ index → has_place (tables_of code) p ≡ true → is_parity p ≡ true)
@@ -43,14 +43,14 @@ fn data_place(code: Code, index: u8) -> Option<Place>
     Some(place)
 }
 
-// Whether a parity's room has the length, or none.
+/// Whether a parity's room has the length, or none.
 fn is_room(room: usize, len: usize) -> bool
     ensures { IsTrue result ↔ IsRoom len room }
 {
     room == len || room == 0
 }
 
-// A place's coefficient in a row that has one for each of the first places; 00 where it is none of these.
+/// A place's coefficient in a row that has one for each of the first places; 00 where it is none of these.
 fn coefficient_of(row: &[Gf], places: &[Place], place: Place) -> Gf
     requires { length row.now ≤ length places.now }
     ensures { result ≡ coefficient_at places.now row.now place }
@@ -64,7 +64,7 @@ fn coefficient_of(row: &[Gf], places: &[Place], place: Place) -> Gf
     sum
 }
 
-// A data place's coefficients in the four parities.
+/// A data place's coefficients in the four parities.
 #[derive(Clone, Copy)]
 struct Coefficients {
     px: Gf,
@@ -87,7 +87,7 @@ fn coefficients_of(code: Code, place: Place) -> Coefficients
     }
 }
 
-// Adds a coefficient times the difference to a parity that has its length.
+/// Adds a coefficient times the difference to a parity that has its length.
 fn update(coefficient: Gf, difference: &[u8], parity: &mut [u8])
     ensures given { length parity.old ≡ length difference.now
         → parity.new ≡ sums parity.old (map (times coefficient) difference.now) }

@@ -81,7 +81,7 @@ pub(crate) fn write_checked(
     true
 }
 
-// The end of the window that begins at an index.
+/// The end of the window that begins at an index.
 fn window_end(from: usize, len: usize) -> usize
     requires { from < len }
     ensures further { from < result }
@@ -90,7 +90,7 @@ fn window_end(from: usize, len: usize) -> usize
     from + (len - from).min(WINDOW)
 }
 
-// Whether all sums are 00 at the positions of a window.
+/// Whether all sums are 00 at the positions of a window.
 fn are_zero(checks: &Checks, from: usize, to: usize) -> bool
     requires ready { AreReady checks.now }
     requires inside { to ≤ checks.now.len }
@@ -103,7 +103,7 @@ fn are_zero(checks: &Checks, from: usize, to: usize) -> bool
         && is_zero(checks.fourth, len, from, to)
 }
 
-// Writes what is wanted in two rooms over the positions of a window, by pairs where there are any and the window is long enough.
+/// Writes what is wanted in two rooms over the positions of a window, by pairs where there are any and the window is long enough.
 fn write_two(couple: &Couple, a: &mut [u8], b: &mut [u8], len: usize, from: usize, to: usize)
     requires rooms { HaveRooms len couple.now (length a.old) (length b.old) }
     requires ordered { from ≤ to }
@@ -122,7 +122,7 @@ fn write_two(couple: &Couple, a: &mut [u8], b: &mut [u8], len: usize, from: usiz
     write_wanted(couple.second, b, len, from, to);
 }
 
-// Writes the sums that are wanted over the positions of a window.
+/// Writes the sums that are wanted over the positions of a window.
 fn write_wanted(wanted: Option<&[Term]>, out: &mut [u8], len: usize, from: usize, to: usize)
     requires ready { HasRoom len wanted (length out.old) }
     requires ordered { from ≤ to }

@@ -155,14 +155,14 @@ pub(crate) fn elements_of(row: &[u8; 16]) -> [Gf; 16]
     row.map(|c| Gf::new(c))
 }
 
-// Twelve coefficients as elements of the field.
+/// Twelve coefficients as elements of the field.
 fn elements_of_twelve(row: &[u8; 12]) -> [Gf; 12]
     ensures { result ≡ row.now }
 {
     row.map(|c| Gf::new(c))
 }
 
-// Six coefficients as elements of the field, with 00 after them.
+/// Six coefficients as elements of the field, with 00 after them.
 fn padded(row: &[u8; 6]) -> [Gf; 12]
     ensures { result ≡ row.now ++ replicate 6 0 }
 {

@@ -4,7 +4,7 @@ ghost use Rattle.std.specs.List.{list_all};
 ghost use Rattle.std.specs.Str.Parse.{digits_value};
 ghost use Rattle.lrc_code.specs.Text.{is_digit, number};
 
-// A number has at most so many digits.
+/// A number has at most so many digits.
 const MOST_DIGITS: usize = 7;
 
 /// The number that one to seven decimal digits write; leading zeros are allowed, a sign is not.
@@ -24,7 +24,7 @@ fn are_digits(text: &[u8]) -> bool
     text.iter().all(|b| b'0' <= *b && *b <= b'9')
 }
 
-// The value of at most seven digits.
+/// The value of at most seven digits.
 fn value_of(digits: &[u8]) -> u32
     requires digits { list_all is_digit digits.now ≡ true }
     requires short { length digits.now ≤ 7 }

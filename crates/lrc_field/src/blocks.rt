@@ -49,7 +49,7 @@ pub(crate) fn load(bytes: &[u8], i: usize) -> u8x32
     u8x32::from_slice(&bytes[i..])
 }
 
-// Writes the vector over the 32 bytes from index `i` on.
+/// Writes the vector over the 32 bytes from index `i` on.
 #[inline(always)]
 fn store(bytes: &mut [u8], i: usize, v: u8x32)
     requires room { i + 32 ≤ length bytes.old }
@@ -84,7 +84,7 @@ fn high_halves(bytes: u8x32) -> u8x32
     bytes >> u8x32::splat(4)
 }
 
-// In each lane the table's entry at that half, read within the lane's own block of 16.
+/// In each lane the table's entry at that half, read within the lane's own block of 16.
 #[inline(always)]
 fn looked_up(table: u8x32, halves: u8x32) -> u8x32
     requires { (k : ℕ) → k < 32 → slice_index halves k < 16 }
@@ -93,7 +93,7 @@ fn looked_up(table: u8x32, halves: u8x32) -> u8x32
     table.swizzle_dyn_within::<16>(halves)
 }
 
-// The 16 bytes from index `i` on.
+/// The 16 bytes from index `i` on.
 #[inline(always)]
 fn load_sixteen(bytes: &[u8], i: usize) -> u8x16
     requires { i + 16 ≤ length bytes.now }
@@ -103,7 +103,7 @@ fn load_sixteen(bytes: &[u8], i: usize) -> u8x16
     u8x16::from_slice(&bytes[i..])
 }
 
-// Sixteen lanes, twice.
+/// Sixteen lanes, twice.
 #[inline(always)]
 fn twice(lanes: u8x16) -> u8x32
     requires { length lanes ≡ 16 }
@@ -115,7 +115,7 @@ fn twice(lanes: u8x16) -> u8x32
     ])
 }
 
-// The line of a byte in a table of all bytes' lines, twice.
+/// The line of a byte in a table of all bytes' lines, twice.
 #[inline(always)]
 fn line(table: &[u8; 4096], byte: u8) -> u8x32
     ensures { HasLanes result (λ k. slice_index table.now (16 * byte + k % 16)) }
@@ -144,7 +144,7 @@ impl Tables {
         added(low, high)
     }
 
-    // The scalar times each of 96 bytes.
+    /// The scalar times each of 96 bytes.
     #[inline(always)]
     fn scaled_trio(self, bytes: Trio) -> Trio
         ensures { (c : ℕ) (f : ℕ → ℕ) → AreTables c self.low self.high → HasTrio bytes f → HasTrio result (λ k. times c (f k)) }
@@ -352,7 +352,7 @@ pub(crate) fn scale_add_block(dst: &mut [u8], i: usize, tables: Tables, src: &[u
     store(dst, i, sums);
 }
 
-// The first 16 of 32 bytes.
+/// The first 16 of 32 bytes.
 #[inline(always)]
 fn front(v: u8x32) -> u8x16
     requires { length v ≡ 32 }
@@ -362,7 +362,7 @@ fn front(v: u8x32) -> u8x16
     v.swizzle([0, 1, 2, 3, 4, 5, 6, 7, 8, 9, 10, 11, 12, 13, 14, 15])
 }
 
-// Writes the vector over the 16 bytes from position `i` on.
+/// Writes the vector over the 16 bytes from position `i` on.
 #[inline(always)]
 fn store_sixteen(bytes: &mut [u8], i: usize, v: u8x16)
     requires room { i + 16 ≤ length bytes.old }

@@ -45,7 +45,7 @@ pub fn no_pairs<'a>() -> [Pair<'a>; 16]
     ]
 }
 
-// 00 times no bytes, twice.
+/// 00 times no bytes, twice.
 fn no_pair<'a>() -> Pair<'a> {
     Pair {
         bytes: &[],
@@ -76,7 +76,7 @@ pub fn pairs_in<'s, 'a, S: Source<'a>>(
     &room[..count]
 }
 
-// Writes the pairs at the start of the room, and returns how many there are.
+/// Writes the pairs at the start of the room, and returns how many there are.
 fn fill_room<'a, S: Source<'a>>(
     room: &mut [Pair<'a>; 16],
     firsts: &[Gf],
@@ -112,7 +112,7 @@ fn fill_room<'a, S: Source<'a>>(
     count
 }
 
-// Whether the products of two scalars with the bytes of the source at an index may be other than 00.
+/// Whether the products of two scalars with the bytes of the source at an index may be other than 00.
 #[inline(always)]
 fn has_products<'a, S: Source<'a>>(first: Gf, second: Gf, sources: &[S], k: usize) -> bool
     ensures yes { result ≡ true → ((first ≢ 0) ⊎ (second ≢ 0)) × (length (slice_index_or (map S.bytes_of sources.now) k []) ≢ 0) }
@@ -122,8 +122,8 @@ fn has_products<'a, S: Source<'a>>(first: Gf, second: Gf, sources: &[S], k: usiz
     (first.byte() != 0 || second.byte() != 0) && !bytes_at(sources, k).is_empty()
 }
 
-// Adds to two sums at 96 positions the products of the bytes from position `i` on, each with a scalar of its own. Where both scalars
-// are 01, no tables are needed.
+/// Adds to two sums at 96 positions the products of the bytes from position `i` on, each with a scalar of its own. Where both scalars
+/// are 01, no tables are needed.
 #[inline(always)]
 fn with_products(a: Trio, b: Trio, first: Gf, second: Gf, bytes: &[u8], i: usize) -> (Trio, Trio)
     requires { i + 96 ≤ length bytes.now }
@@ -140,7 +140,7 @@ fn with_products(a: Trio, b: Trio, first: Gf, second: Gf, bytes: &[u8], i: usize
     )
 }
 
-// Writes both sums at 96 positions, from position `i` on.
+/// Writes both sums at 96 positions, from position `i` on.
 #[inline(always)]
 fn put_sums(first: &mut [u8], second: &mut [u8], i: usize, from: usize, pairs: &[Pair])
     requires fits { from + length first.old < 2 ^ 64 }

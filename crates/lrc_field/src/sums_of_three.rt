@@ -38,9 +38,9 @@ pub(crate) fn write_sums_of_three(
     blocks::put(dst, rest, sums);
 }
 
-// Writes the sums at as many of the first positions as whole blocks of 128 have, and says how many. A block is written after the next
-// one's bytes are read: a read waits for a write before it whose address has the same low twelve bits, and memory that is taken
-// after the sources' is often a few bytes past theirs in that measure.
+/// Writes the sums at as many of the first positions as whole blocks of 128 have, and says how many. A block is written after the next
+/// one's bytes are read: a read waits for a write before it whose address has the same low twelve bits, and memory that is taken
+/// after the sources' is often a few bytes past theirs in that measure.
 #[inline(always)]
 fn write_quads_of_three(
     dst: &mut [u8],
@@ -72,7 +72,7 @@ fn write_quads_of_three(
     i + 128
 }
 
-// The sums of three slices at 32 positions, from index `i` on.
+/// The sums of three slices at 32 positions, from index `i` on.
 #[inline(always)]
 fn block_of_three(first: &[u8], second: &[u8], third: &[u8], i: usize) -> u8x32
     requires in_first { i + 32 ≤ length first.now }
@@ -84,7 +84,7 @@ fn block_of_three(first: &[u8], second: &[u8], third: &[u8], i: usize) -> u8x32
     blocks::added(blocks::load(first, i), later)
 }
 
-// The sums of three slices at 128 positions, from index `i` on.
+/// The sums of three slices at 128 positions, from index `i` on.
 #[inline(always)]
 fn quad_of_three(first: &[u8], second: &[u8], third: &[u8], i: usize) -> Quad
     requires in_first { i + 128 ≤ length first.now }

@@ -13,7 +13,7 @@ use std::simd::prelude::*;
 /// How many sums of terms are made at once where there are so many, in six vectors.
 pub const SUMMED_AT_ONCE: usize = 192;
 
-// Adds 32 products of a scalar, from index `i` on. The scalar 01 needs no tables.
+/// Adds 32 products of a scalar, from index `i` on. The scalar 01 needs no tables.
 #[inline(always)]
 fn with_products(sums: u8x32, c: Gf, bytes: &[u8], i: usize) -> u8x32
     requires { i + 32 ≤ length bytes.now }
@@ -27,7 +27,7 @@ fn with_products(sums: u8x32, c: Gf, bytes: &[u8], i: usize) -> u8x32
     }
 }
 
-// Adds 192 products of a scalar, from index `i` on.
+/// Adds 192 products of a scalar, from index `i` on.
 #[inline(always)]
 fn six_with_products(sums: Six, c: Gf, bytes: &[u8], i: usize) -> Six
     requires { i + 192 ≤ length bytes.now }
@@ -41,7 +41,7 @@ fn six_with_products(sums: Six, c: Gf, bytes: &[u8], i: usize) -> Six
     }
 }
 
-// The sums at 32 positions, from index `i` on.
+/// The sums at 32 positions, from index `i` on.
 #[inline(always)]
 fn sums_at(terms: &[Term], i: usize) -> u8x32
     requires { Reach (i + 32) terms.now }
@@ -54,7 +54,7 @@ fn sums_at(terms: &[Term], i: usize) -> u8x32
     sums
 }
 
-// The sums at 192 positions, from index `i` on.
+/// The sums at 192 positions, from index `i` on.
 #[inline(always)]
 fn six_sums_at(terms: &[Term], i: usize) -> Six
     requires { Reach (i + 192) terms.now }
@@ -136,7 +136,7 @@ fn clear(bytes: &mut [u8])
     }
 }
 
-// Adds products with the bytes from index `from` on, byte by byte.
+/// Adds products with the bytes from index `from` on, byte by byte.
 fn add_few(dst: &mut [u8], from: usize, c: Gf, bytes: &[u8])
     requires fits { from + length dst.old < 2 ^ 64 }
     requires room { from + length dst.old ≤ length bytes.now }

@@ -57,7 +57,7 @@ pub fn no_terms<'a>() -> [Term<'a>; 16]
     ]
 }
 
-// 00 times no bytes. A call for each, since such a value isn't copied while its bytes are lent.
+/// 00 times no bytes. A call for each, since such a value isn't copied while its bytes are lent.
 fn no_term<'a>() -> Term<'a>
     ensures { result.scalar ≡ 0 }
 {
@@ -86,7 +86,7 @@ pub fn terms_in<'s, 'a, S: Source<'a>>(
     &room[..count]
 }
 
-// Writes the terms at the start of the room, and returns how many there are.
+/// Writes the terms at the start of the room, and returns how many there are.
 fn fill_room<'a, S: Source<'a>>(
     room: &mut [Term<'a>; 16],
     coefficients: &[Gf],
@@ -123,8 +123,8 @@ pub(crate) fn bytes_at<'a, S: Source<'a>>(sources: &[S], k: usize) -> &'a [u8]
     sources[k].bytes()
 }
 
-// Whether a scalar's products with the bytes of the source at an index may be other than 00. Most scalars are 00, and then the source isn't
-// looked at. It gives no option with the bytes, since an option's copies wait for their own writes.
+/// Whether a scalar's products with the bytes of the source at an index may be other than 00. Most scalars are 00, and then the source
+/// isn't looked at. It gives no option with the bytes, since an option's copies wait for their own writes.
 #[inline(always)]
 fn has_products<'a, S: Source<'a>>(scalar: Gf, sources: &[S], k: usize) -> bool
     ensures yes { result ≡ true → (scalar ≢ 0) × (length (slice_index_or (map S.bytes_of sources.now) k []) ≢ 0) }

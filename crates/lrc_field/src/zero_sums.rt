@@ -47,7 +47,7 @@ pub fn sums_are_zero_between(from: usize, to: usize, terms: &[Term]) -> bool
     true
 }
 
-// Whether the sum of the terms is 00 at each of few positions, as many as `sums` has. The sums are written there.
+/// Whether the sum of the terms is 00 at each of few positions, as many as `sums` has. The sums are written there.
 fn few_are_zero(sums: &mut [u8], terms: &[Term]) -> bool
     requires { HaveLength (length sums.old) terms.now }
     ensures { IsTrue result ↔ AreZeroBelow (length sums.old) terms.now }
@@ -56,7 +56,7 @@ fn few_are_zero(sums: &mut [u8], terms: &[Term]) -> bool
     are_zeros(sums)
 }
 
-// Whether the sums are 00 at as many positions as `part` has, from index `from` on. The sums are written there.
+/// Whether the sums are 00 at as many positions as `part` has, from index `from` on. The sums are written there.
 fn part_is_zero(part: &mut [u8], from: usize, terms: &[Term]) -> bool
     requires fits { from + length part.old < 2 ^ 64 }
     requires room { Reach (from + length part.old) terms.now }

@@ -75,7 +75,7 @@ pub fn answer_by<A: Allocator>(
     }
 }
 
-// Whether all trees mean 00 at every position.
+/// Whether all trees mean 00 at every position.
 fn are_zero_trees<A: Allocator>(trees: &[Tree<A>], request: &Request, sources: &Sources<'_>) -> bool
     requires { AreSources request.now.survivors sources.now }
     ensures { IsTrue result ↔ All (λ t. IsZeroTree request.now (form_of t)) trees.now }
@@ -88,7 +88,7 @@ fn are_zero_trees<A: Allocator>(trees: &[Tree<A>], request: &Request, sources: &
     true
 }
 
-// Whether a tree means 00 at every position.
+/// Whether a tree means 00 at every position.
 fn is_zero_tree<A: Allocator>(tree: &Tree<A>, request: &Request, sources: &Sources<'_>) -> bool
     requires { AreSources request.now.survivors sources.now }
     ensures { IsTrue result ↔ IsZeroTree request.now (form_of tree.now) }

@@ -67,7 +67,7 @@ impl<A: Allocator> Tree<A> {
         sums
     }
 
-    // Adds the tree's coefficients, times a factor.
+    /// Adds the tree's coefficients, times a factor.
     fn add_coefficients(&self, factor: Gf, sums: &mut [Gf; 16])
         ensures { (b : Place → ℕ) → combination sums.new (map b all_places)
             ≡ bit_xor (combination sums.old (map b all_places)) (times factor (meaning b (form_of self.now))) }

@@ -14,7 +14,7 @@ const NAMES: [&str; 16] = [
     "x0", "x1", "x2", "y0", "y1", "y2", "px", "py", "p0", "p1", "x3", "x4", "x5", "y3", "y4", "y5",
 ];
 
-// The group of the place with an index.
+/// The group of the place with an index.
 fn group_at(index: usize) -> Option<Group> {
     match index {
         0 | 1 | 2 | 6 | 10 | 11 | 12 => Some(Group::X),
@@ -23,7 +23,7 @@ fn group_at(index: usize) -> Option<Group> {
     }
 }
 
-// Whether the place with an index has this name.
+/// Whether the place with an index has this name.
 fn is_named(index: usize, name: &str) -> bool {
     let Some(place) = Place::from_index(index) else {
         return false;
@@ -36,7 +36,7 @@ fn is_named(index: usize, name: &str) -> bool {
 
 const NO_NAMES: &[&str] = &["", "x", "x6", "X0", "x0 ", "px0", "z9"];
 
-// Whether there is no place with these names, with bytes that are no text, or with the index after the last.
+/// Whether there is no place with these names, with bytes that are no text, or with the index after the last.
 fn has_no_others() -> bool {
     for name in NO_NAMES {
         if Place::parse(name).is_some() {
@@ -64,7 +64,7 @@ const NUMBERS: &[(&str, u32)] = &[
 
 const NO_NUMBERS: &[&str] = &["", "00000003", "+3", "-3", "3 ", "3a", "٣"];
 
-// Whether a text is this number, or none.
+/// Whether a text is this number, or none.
 fn is_number(text: &str, number: Option<u32>) -> bool {
     parse_number(text.as_bytes()) == number
 }
@@ -79,7 +79,7 @@ fn numbers_have_one_to_seven_digits(rt: HostRuntime) {
     }
 }
 
-// A request for `target` with these survivors.
+/// A request for `target` with these survivors.
 fn asked(
     alloc: Global,
     stripe: &str,
@@ -97,7 +97,7 @@ fn asked(
     Ok(Request::new(stripe.to_string(alloc)?, target, length, survivors))
 }
 
-// A request by its stripe, target, length and survivors, and the number of its refusal.
+/// A request by its stripe, target, length and survivors, and the number of its refusal.
 type Asked = (
     &'static str,
     Place,
@@ -106,7 +106,7 @@ type Asked = (
     Option<u8>,
 );
 
-// Whether it is refused by this number.
+/// Whether it is refused by this number.
 fn is_refused(alloc: Global, (stripe, target, length, given, expected): &Asked) -> bool {
     match asked(alloc, stripe, *target, *length, given) {
         Ok(Ok(_)) => expected.is_none(),
@@ -171,7 +171,7 @@ fn refusals_come_in_their_order(rt: HostRuntime) {
     }
 }
 
-// The number of the first refusal where a survivor has the wrong length, and places are repeated and among or not.
+/// The number of the first refusal where a survivor has the wrong length, and places are repeated and among or not.
 fn refusal_of_lengths(repeated: bool, among: bool) -> Option<u8> {
     match first_refusal(
         "a",
@@ -188,7 +188,7 @@ fn refusal_of_lengths(repeated: bool, among: bool) -> Option<u8> {
     }
 }
 
-// Whether a request is refused for nothing where no survivor has the wrong length.
+/// Whether a request is refused for nothing where no survivor has the wrong length.
 fn is_granted() -> bool {
     let places = AskedPlaces {
         are_of_the_code: true,
@@ -198,7 +198,7 @@ fn is_granted() -> bool {
     first_refusal("a", 1, places, None).is_none()
 }
 
-// The refusals before E5 ask for no bytes.
+/// The refusals before E5 ask for no bytes.
 #[test]
 fn earlier_refusals_ask_for_no_bytes(rt: HostRuntime) {
     assert!(&rt; is_granted());
@@ -206,7 +206,7 @@ fn earlier_refusals_ask_for_no_bytes(rt: HostRuntime) {
     assert!(&rt; refusal_of_lengths(true, true) == Some(3));
 }
 
-// Whether the readers give what the request of the test was made with.
+/// Whether the readers give what the request of the test was made with.
 fn is_read(request: &Request) -> bool {
     let survivors = request.survivors();
     request.stripe() == "a-1"
@@ -218,7 +218,7 @@ fn is_read(request: &Request) -> bool {
         && request.bytes_at(Place::X0).is_none()
 }
 
-// Whether its sources are the bytes of its two survivors.
+/// Whether its sources are the bytes of its two survivors.
 fn has_two_sources(request: &Request) -> bool {
     let sources = request.sources();
     sources[Place::X1.index()] == SEVEN
@@ -227,7 +227,7 @@ fn has_two_sources(request: &Request) -> bool {
         && sources[15].is_empty()
 }
 
-// Whether it gives its two survivors back, in their order.
+/// Whether it gives its two survivors back, in their order.
 fn gives_back(request: Request) -> bool {
     match request.into_survivors().as_slice() {
         [first, second] => first.place == Place::Y2 && second.place == Place::X1,
@@ -235,7 +235,7 @@ fn gives_back(request: Request) -> bool {
     }
 }
 
-// Whether a request is made, and gives all of that.
+/// Whether a request is made, and gives all of that.
 fn is_given(alloc: Global) -> bool {
     match asked(alloc, "a-1", Place::P0, 1, &[Y2, X1]) {
         Ok(Ok(request)) => is_read(&request) && has_two_sources(&request) && gives_back(request),
@@ -248,7 +248,7 @@ fn a_request_gives_what_it_was_made_of(rt: HostRuntime) {
     assert!(&rt; is_given(rt.alloc()));
 }
 
-// Whether these fragments have these bytes.
+/// Whether these fragments have these bytes.
 fn are_fragments(fragments: &[Vec<u8>], expected: &[&[u8]]) -> bool {
     if fragments.len() != expected.len() {
         return false;
@@ -274,7 +274,7 @@ const STRIPE: &[&[u8]; 10] = &[
     b"\x5e\x6e\x7e",
 ];
 
-// Whether the data of the stripe, of one length, are encoded as the stripe.
+/// Whether the data of the stripe, of one length, are encoded as the stripe.
 fn is_encoded(alloc: Global) -> Result<bool, AllocError> {
     let sources: [Vec<u8>; 6] = array::try_from_fn(|k| STRIPE[k].to_vec(alloc))?;
     if !sources.iter().all(|source| source.len() == 3) {
@@ -283,13 +283,13 @@ fn is_encoded(alloc: Global) -> Result<bool, AllocError> {
     Ok(are_fragments(&encode(alloc, &sources)?, STRIPE))
 }
 
-// The parities of 61 62 63 and five data of zeros.
+/// The parities of 61 62 63 and five data of zeros.
 #[test]
 fn a_stripe_has_the_known_parities(rt: HostRuntime) {
     assert!(&rt; is_encoded(rt.alloc()) == Ok(true));
 }
 
-// Whether the (6,2,2) code has its places, where a set with a place of it and another one is left out.
+/// Whether the (6,2,2) code has its places, where a set with a place of it and another one is left out.
 fn has_narrow_places(set: PlaceSet) -> bool {
     let code = Code::Narrow;
     code.places().len() == 10
@@ -300,7 +300,7 @@ fn has_narrow_places(set: PlaceSet) -> bool {
         && code.others(set).len() == 9
 }
 
-// And the (12,2,2) code, which has both.
+/// And the (12,2,2) code, which has both.
 fn has_wide_places(set: PlaceSet) -> bool {
     let code = Code::Wide;
     code.places().len() == 16
@@ -317,7 +317,7 @@ fn each_code_has_its_own_places(rt: HostRuntime) {
     assert!(&rt; has_wide_places(set), "the (12,2,2) code");
 }
 
-// The coefficients of px, py, p0 and p1 of (6,2,2).
+/// The coefficients of px, py, p0 and p1 of (6,2,2).
 const NARROW_ROWS: [[u8; 12]; 4] = [
     [1, 1, 1, 0, 0, 0, 0, 0, 0, 0, 0, 0],
     [0, 0, 0, 1, 1, 1, 0, 0, 0, 0, 0, 0],
@@ -325,7 +325,7 @@ const NARROW_ROWS: [[u8; 12]; 4] = [
     [16, 64, 80, 1, 4, 5, 0, 0, 0, 0, 0, 0],
 ];
 
-// And of (12,2,2).
+/// And of (12,2,2).
 const WIDE_ROWS: [[u8; 12]; 4] = [
     [1, 1, 1, 1, 1, 1, 0, 0, 0, 0, 0, 0],
     [0, 0, 0, 0, 0, 0, 1, 1, 1, 1, 1, 1],
@@ -333,7 +333,7 @@ const WIDE_ROWS: [[u8; 12]; 4] = [
     [29, 116, 105, 205, 208, 185, 1, 4, 5, 16, 17, 20],
 ];
 
-// Whether a parity has these coefficients.
+/// Whether a parity has these coefficients.
 fn has_coefficients(found: &[Gf; 12], row: &[u8; 12]) -> bool {
     for k in 0..12usize {
         if found[k].byte() != row[k] {
@@ -343,7 +343,7 @@ fn has_coefficients(found: &[Gf; 12], row: &[u8; 12]) -> bool {
     true
 }
 
-// Whether a code's parities have these.
+/// Whether a code's parities have these.
 fn has_parities(code: Code, rows: &[[u8; 12]; 4]) -> bool {
     let [px, py, p0, p1] = rows;
     let found = code.parities();
@@ -367,7 +367,7 @@ const WIDE_STRIPE: &[&[u8]; 16] = &[
     b"\x00", b"\x02", b"\x72", b"\xa6",
 ];
 
-// A fragment of one byte.
+/// A fragment of one byte.
 fn byte(alloc: Global, byte: u8) -> Result<Vec<u8>, AllocError>
     ensures { IfOk result (λ v. length v.items ≡ 1) }
 {
@@ -375,7 +375,7 @@ fn byte(alloc: Global, byte: u8) -> Result<Vec<u8>, AllocError>
     Ok(bytes)
 }
 
-// Whether the data of the wide stripe are encoded as it.
+/// Whether the data of the wide stripe are encoded as it.
 fn is_encoded_wide(alloc: Global) -> Result<bool, AllocError> {
     let sources = [
         byte(alloc, 1)?,
@@ -395,13 +395,13 @@ fn is_encoded_wide(alloc: Global) -> Result<bool, AllocError> {
     Ok(are_fragments(&stripe, WIDE_STRIPE))
 }
 
-// The stripe with x0 = x5 = 01, y0 = 02 and no other data.
+/// The stripe with x0 = x5 = 01, y0 = 02 and no other data.
 #[test]
 fn a_wide_stripe_has_the_known_parities(rt: HostRuntime) {
     assert!(&rt; is_encoded_wide(rt.alloc()) == Ok(true));
 }
 
-// How many rows of the (12,2,2) code have x5 as their pivot, where it is lost alone.
+/// How many rows of the (12,2,2) code have x5 as their pivot, where it is lost alone.
 fn pivots_of_x5() -> u32 {
     let wide = reduce_in(Code::Wide, PlaceSet::empty().with(Place::X5));
     let mut pivots = 0u32;
@@ -413,7 +413,7 @@ fn pivots_of_x5() -> u32 {
     pivots
 }
 
-// Whether no row of the (6,2,2) code has a pivot then, nor a coefficient of x5.
+/// Whether no row of the (6,2,2) code has a pivot then, nor a coefficient of x5.
 fn has_no_pivot() -> bool {
     let narrow = reduce_in(Code::Narrow, PlaceSet::empty().with(Place::X5));
     for row in 0..4usize {
@@ -424,7 +424,7 @@ fn has_no_pivot() -> bool {
     true
 }
 
-// With x5 lost alone in the (12,2,2) code one row has a pivot. A lost place outside the code plays no part.
+/// With x5 lost alone in the (12,2,2) code one row has a pivot. A lost place outside the code plays no part.
 #[test]
 fn a_place_outside_the_code_is_no_pivot(rt: HostRuntime) {
     assert!(&rt; pivots_of_x5() == 1);

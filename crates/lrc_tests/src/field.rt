@@ -7,7 +7,7 @@ use lrc_field::{
 };
 use std::alloc::{AllocError, Global};
 
-// The product by shifts: for each bit of b the shifted a, reduced at each shift.
+/// The product by shifts: for each bit of b the shifted a, reduced at each shift.
 fn product_by_shifts(a: u8, b: u8) -> u8 {
     let mut sum = 0;
     let mut shifted = a;
@@ -24,7 +24,7 @@ fn product_by_shifts(a: u8, b: u8) -> u8 {
     sum
 }
 
-// Bytes of a linear congruential generator.
+/// Bytes of a linear congruential generator.
 fn some_bytes(alloc: Global, len: usize, seed: u32) -> Result<Vec<u8>, AllocError> {
     let mut bytes = Vec::with_capacity(alloc, len)?;
     let mut state = seed;
@@ -35,7 +35,7 @@ fn some_bytes(alloc: Global, len: usize, seed: u32) -> Result<Vec<u8>, AllocErro
     Ok(bytes)
 }
 
-// The sum of these terms at an index, by shifts.
+/// The sum of these terms at an index, by shifts.
 fn sum_at(index: usize, terms: &[Term]) -> Option<u8> {
     let mut sum = 0;
     for term in terms {
@@ -45,7 +45,7 @@ fn sum_at(index: usize, terms: &[Term]) -> Option<u8> {
     Some(sum)
 }
 
-// Whether these bytes are the sums of the terms, by shifts, from an index on.
+/// Whether these bytes are the sums of the terms, by shifts, from an index on.
 fn are_sums(bytes: &[u8], from: usize, terms: &[Term]) -> bool {
     let mut index = from;
     for byte in bytes {
@@ -57,7 +57,7 @@ fn are_sums(bytes: &[u8], from: usize, terms: &[Term]) -> bool {
     true
 }
 
-// Both sums of these pairs at an index, by shifts.
+/// Both sums of these pairs at an index, by shifts.
 fn pair_sums_at(index: usize, pairs: &[Pair]) -> Option<(u8, u8)> {
     let mut first = 0;
     let mut second = 0;
@@ -69,7 +69,7 @@ fn pair_sums_at(index: usize, pairs: &[Pair]) -> Option<(u8, u8)> {
     Some((first, second))
 }
 
-// The second source is empty, and the last coefficient has no source.
+/// The second source is empty, and the last coefficient has no source.
 const SOURCES: &[&[u8]] = &[&[0x80, 0x04], &[], &[0xff, 0x0c], &[0x61, 0x61]];
 
 const FIRSTS: [u8; 5] = [0x00, 0x53, 0x02, 0x10, 0xff];
@@ -81,7 +81,7 @@ fn elements(bytes: [u8; 5]) -> [Gf; 5] {
     [Gf::new(a), Gf::new(b), Gf::new(c), Gf::new(d), Gf::new(e)]
 }
 
-// Whether these are the terms of those.
+/// Whether these are the terms of those.
 fn are_terms(terms: &[Term]) -> bool {
     terms.len() == 2
         && sum_at(0, terms) == Some(0xe3 ^ 0x5e)
@@ -112,14 +112,14 @@ fn is_empty_of_pairs(room: &[Pair]) -> bool {
     true
 }
 
-// Rooms have nothing in them at first, so that what is read of one by mistake adds nothing.
+/// Rooms have nothing in them at first, so that what is read of one by mistake adds nothing.
 #[test]
 fn rooms_have_nothing_at_first(rt: HostRuntime) {
     assert!(&rt; is_empty_of_terms(&no_terms()));
     assert!(&rt; is_empty_of_pairs(&no_pairs()));
 }
 
-// Whether these are the pairs of both.
+/// Whether these are the pairs of both.
 fn are_pairs(pairs: &[Pair]) -> bool {
     pairs.len() == 3
         && pair_sums_at(0, pairs) == Some((0xe3 ^ 0x5e, 0x3a ^ 0x61))
@@ -156,7 +156,7 @@ const PRODUCTS: &[(u8, u8, u8)] = &[
 
 const INVERSES: &[(u8, u8)] = &[(0x01, 0x01), (0x02, 0x8e), (0x04, 0x47), (0x8e, 0x02)];
 
-// Whether an element has this inverse.
+/// Whether an element has this inverse.
 fn has_inverse(a: u8, expected: u8) -> bool {
     match Gf::new(a).inverse() {
         Some(inverse) => inverse.byte() == expected,
@@ -164,7 +164,7 @@ fn has_inverse(a: u8, expected: u8) -> bool {
     }
 }
 
-// Whether two bytes have this product, also by shifts.
+/// Whether two bytes have this product, also by shifts.
 fn have_product(a: u8, b: u8, expected: u8) -> bool {
     Gf::new(a).mul(Gf::new(b)).byte() == expected && product_by_shifts(a, b) == expected
 }
@@ -190,7 +190,7 @@ fn term_of<'a>(scalar: u8, bytes: &'a [u8]) -> Term<'a>
     }
 }
 
-// Whether each byte is that of a slice and a scalar times that of another, by shifts.
+/// Whether each byte is that of a slice and a scalar times that of another, by shifts.
 fn are_scaled_sums(bytes: &[u8], before: &[u8], scalar: u8, src: &[u8]) -> bool {
     let len = bytes.len();
     if before.len() != len || src.len() != len {
@@ -204,7 +204,7 @@ fn are_scaled_sums(bytes: &[u8], before: &[u8], scalar: u8, src: &[u8]) -> bool 
     true
 }
 
-// Whether a slice added into another gives the sums by shifts.
+/// Whether a slice added into another gives the sums by shifts.
 fn adds(alloc: Global, before: &[u8], src: &[u8]) -> Result<bool, AllocError> {
     let mut dst = before.to_vec(alloc)?;
     if dst.len() != src.len() {
@@ -214,7 +214,7 @@ fn adds(alloc: Global, before: &[u8], src: &[u8]) -> Result<bool, AllocError> {
     Ok(are_scaled_sums(&dst, before, 0x01, src))
 }
 
-// And a scalar times the slice.
+/// And a scalar times the slice.
 fn scale_adds(alloc: Global, before: &[u8], scalar: u8, src: &[u8]) -> Result<bool, AllocError> {
     let mut dst = before.to_vec(alloc)?;
     if dst.len() != src.len() {
@@ -224,7 +224,7 @@ fn scale_adds(alloc: Global, before: &[u8], scalar: u8, src: &[u8]) -> Result<bo
     Ok(are_scaled_sums(&dst, before, scalar, src))
 }
 
-// Whether both are so for slices of this length, the second for each scalar.
+/// Whether both are so for slices of this length, the second for each scalar.
 fn slices_are_summed(alloc: Global, len: usize) -> Result<bool, AllocError> {
     let src = some_bytes(alloc, len, 5)?;
     let before = some_bytes(alloc, len, 11)?;
@@ -246,7 +246,7 @@ fn sums_of_slices_are_those_by_shifts(rt: HostRuntime) {
     }
 }
 
-// Whether the sums of three terms are those by shifts, and zero only where there are none.
+/// Whether the sums of three terms are those by shifts, and zero only where there are none.
 fn are_combined(alloc: Global, first: &[u8], second: &[u8]) -> Result<bool, AllocError> {
     let len = first.len();
     if second.len() != len {
@@ -265,7 +265,7 @@ fn are_combined(alloc: Global, first: &[u8], second: &[u8]) -> Result<bool, Allo
     Ok(sums.len() == len && are_sums(&sums, 0, &terms) && sums_are_zero(len, &terms) == (len == 0))
 }
 
-// Whether they are so for terms of this length, and the sums of two equal terms are zero.
+/// Whether they are so for terms of this length, and the sums of two equal terms are zero.
 fn terms_are_combined(alloc: Global, len: usize) -> Result<bool, AllocError> {
     let first = some_bytes(alloc, len, 5)?;
     let second = some_bytes(alloc, len, 11)?;
@@ -286,7 +286,7 @@ fn sums_of_terms_are_those_by_shifts(rt: HostRuntime) {
     }
 }
 
-// Lengths of windows: around the blocks of 32 bytes, the two of 128 of a sum of three, and those of 192 of other sums.
+/// Lengths of windows: around the blocks of 32 bytes, the two of 128 of a sum of three, and those of 192 of other sums.
 const WINDOWS: &[usize] = &[
     0,
     1,
@@ -309,10 +309,10 @@ const WINDOWS: &[usize] = &[
     4_097,
 ];
 
-// Bytes of each source, more than any window needs.
+/// Bytes of each source, more than any window needs.
 const SOURCE: usize = 4_200;
 
-// Whether the sums of a window are those by shifts.
+/// Whether the sums of a window are those by shifts.
 fn is_combined_into(
     alloc: Global,
     from: usize,
@@ -330,7 +330,7 @@ fn is_combined_into(
     Ok(dst.len() == len && are_sums(&dst, from, terms))
 }
 
-// Whether they are so in all windows, with these scalars of the second and the third term.
+/// Whether they are so in all windows, with these scalars of the second and the third term.
 fn are_windows_combined(alloc: Global, b: u8, c: u8) -> Result<bool, AllocError> {
     let first = some_bytes(alloc, SOURCE, 5)?;
     let second = some_bytes(alloc, SOURCE, 11)?;
@@ -343,10 +343,10 @@ fn are_windows_combined(alloc: Global, b: u8, c: u8) -> Result<bool, AllocError>
     are_terms_combined(alloc, &terms)
 }
 
-// From which indexes on windows are.
+/// From which indexes on windows are.
 const FROM: &[usize] = &[0, 1, 33, 100];
 
-// Whether the sums of these terms are so in all windows.
+/// Whether the sums of these terms are so in all windows.
 fn are_terms_combined(alloc: Global, terms: &[Term]) -> Result<bool, AllocError> {
     for from in FROM {
         for len in WINDOWS {
@@ -364,10 +364,10 @@ fn sums_of_terms_in_windows_are_those_by_shifts(rt: HostRuntime) {
     assert!(&rt; are_windows_combined(rt.alloc(), 0x53, 0x00) == Ok(true));
 }
 
-// Lengths of windows of pairs: around the blocks of 96 bytes, of which one is the least.
+/// Lengths of windows of pairs: around the blocks of 96 bytes, of which one is the least.
 const PAIR_WINDOWS: &[usize] = &[96, 97, 128, 191, 192, 193, 1025, 4097];
 
-// Whether both sums of a window are those by shifts.
+/// Whether both sums of a window are those by shifts.
 fn are_combined_in_pairs(
     alloc: Global,
     from: usize,
@@ -386,7 +386,7 @@ fn are_combined_in_pairs(
     Ok(first.len() == len && are_pair_sums(&first, &second, from, pairs))
 }
 
-// Whether these bytes are both sums of the pairs, by shifts, from an index on.
+/// Whether these bytes are both sums of the pairs, by shifts, from an index on.
 fn are_pair_sums(first: &[u8], second: &[u8], from: usize, pairs: &[Pair]) -> bool {
     let mut index = from;
     for (one, other) in first.iter().zip(second.iter()) {
@@ -398,7 +398,7 @@ fn are_pair_sums(first: &[u8], second: &[u8], from: usize, pairs: &[Pair]) -> bo
     first.len() == second.len()
 }
 
-// Whether they are so in all windows of three sources.
+/// Whether they are so in all windows of three sources.
 fn are_pairs_combined(alloc: Global) -> Result<bool, AllocError> {
     let first = some_bytes(alloc, SOURCE, 5)?;
     let second = some_bytes(alloc, SOURCE, 11)?;
@@ -410,7 +410,7 @@ fn are_pairs_combined(alloc: Global) -> Result<bool, AllocError> {
     are_windows_of_pairs(alloc, pairs_in(&mut room, &firsts, &seconds, &sources))
 }
 
-// Whether the sums of these pairs are so in all windows.
+/// Whether the sums of these pairs are so in all windows.
 fn are_windows_of_pairs(alloc: Global, pairs: &[Pair]) -> Result<bool, AllocError> {
     for from in FROM {
         for len in PAIR_WINDOWS {
@@ -427,7 +427,7 @@ fn sums_of_pairs_in_windows_are_those_by_shifts(rt: HostRuntime) {
     assert!(&rt; are_pairs_combined(rt.alloc()) == Ok(true));
 }
 
-// Whether two terms that differ at one index have zero sums in just the windows without it.
+/// Whether two terms that differ at one index have zero sums in just the windows without it.
 fn differ_at(changed: usize, terms: &[Term; 2]) -> bool {
     for from in [0, 1, 33, 100, TESTED_AT_ONCE] {
         for to in [
@@ -452,7 +452,7 @@ fn differ_at(changed: usize, terms: &[Term; 2]) -> bool {
     true
 }
 
-// Whether they have, where the second differs from the first at this index.
+/// Whether they have, where the second differs from the first at this index.
 fn windows_are_zero(alloc: Global, changed: usize) -> Result<bool, AllocError> {
     let first = some_bytes(alloc, SOURCE, 5)?;
     let mut second = first.clone()?;

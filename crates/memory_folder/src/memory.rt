@@ -12,7 +12,7 @@ pub struct MemoryFolder {
     pub(crate) past: Record,
     nodes: Vec<Node>,
     names: Vec<Name>,
-    // How many calls were made that change something.
+    /// How many calls were made that change something.
     count: u64,
     fault: Option<Fault>,
 }
@@ -28,33 +28,33 @@ pub struct Fault {
     pub is_done: bool,
 }
 
-// A file's bytes.
+/// A file's bytes.
 #[derive(Drop)]
 struct Node {
     bytes: Vec<u8>,
     is_on_disk: bool,
 }
 
-// What is at a path, as the number of a file.
+/// What is at a path, as the number of a file.
 #[derive(Drop)]
 struct Name {
     path: String,
     seen: Option<usize>,
-    // What was there since the names of its folder were written to the disk.
+    /// What was there since the names of its folder were written to the disk.
     before: Vec<Option<usize>>,
 }
 
-// What a crash may leave of a file that isn't on the disk: nothing, a half, all, or other bytes.
+/// What a crash may leave of a file that isn't on the disk: nothing, a half, all, or other bytes.
 const STATES: u64 = 4;
 
-// Whether a path is that of a name in a folder.
+/// Whether a path is that of a name in a folder.
 fn is_in(folder: &str, path: &str) -> bool {
     path.strip_prefix(folder)
         .and_then(|rest| rest.strip_prefix('/'))
         .is_some_and(|name| !name.contains('/'))
 }
 
-// What a crash leaves of bytes that aren't on the disk, in the way of this number.
+/// What a crash leaves of bytes that aren't on the disk, in the way of this number.
 fn torn(bytes: Vec<u8>, way: u64) -> Vec<u8> {
     let mut bytes = bytes;
     match way {
@@ -70,7 +70,7 @@ fn torn(bytes: Vec<u8>, way: u64) -> Vec<u8> {
     bytes
 }
 
-// What a call answers.
+/// What a call answers.
 fn answer_of(fails: Option<bool>) -> io::Result<()> {
     match fails {
         None => Ok(()),
@@ -189,7 +189,7 @@ impl MemoryFolder {
             .and_then(|name| name.seen)
     }
 
-    // Puts a file, or none, at a path, without writing the name to the disk.
+    /// Puts a file, or none, at a path, without writing the name to the disk.
     fn set(&mut self, path: &str, node: Option<usize>) -> Result<(), AllocError>
         ensures { self.new.past.calls ≡ self.old.past.calls }
     {
@@ -210,7 +210,7 @@ impl MemoryFolder {
         Ok(())
     }
 
-    // Writes all names to the disk.
+    /// Writes all names to the disk.
     fn settle_all(&mut self)
         ensures { self.new.past.calls ≡ self.old.past.calls }
     {
@@ -219,7 +219,7 @@ impl MemoryFolder {
         }
     }
 
-    // Writes the names in a folder to the disk.
+    /// Writes the names in a folder to the disk.
     fn settle(&mut self, folder: &str)
         ensures { self.new.past.calls ≡ self.old.past.calls }
     {
@@ -237,7 +237,7 @@ impl MemoryFolder {
         }
     }
 
-    // Makes an empty file at a path at which nothing is.
+    /// Makes an empty file at a path at which nothing is.
     pub(crate) fn make(&mut self, path: &str) -> io::Result<(usize, String, Vec<u8>)>
         ensures path { IfOk result (λ made. string_bytes made.1 ≡ path.now) }
         ensures calls { self.new.past.calls ≡ self.old.past.calls }
@@ -248,7 +248,7 @@ impl MemoryFolder {
         Ok((node, own, Vec::new(self.alloc)))
     }
 
-    // Writes a file's bytes to the disk, if the call doesn't fail. Programs see them either way.
+    /// Writes a file's bytes to the disk, if the call doesn't fail. Programs see them either way.
     pub(crate) fn write(&mut self, node: usize, bytes: Vec<u8>) -> io::Result<()>
         ensures { self.new.past.calls ≡ self.old.past.calls }
     {
@@ -260,7 +260,7 @@ impl MemoryFolder {
         answer_of(fails)
     }
 
-    // Counts a call that changes something. Says whether it fails, and then whether it is done all the same.
+    /// Counts a call that changes something. Says whether it fails, and then whether it is done all the same.
     fn fails(&mut self) -> Option<bool>
         ensures { self.new.past.calls ≡ self.old.past.calls }
     {
@@ -271,7 +271,7 @@ impl MemoryFolder {
         is_hit.then_some(fault.is_done && call == fault.at)
     }
 
-    // Puts a file, or none, at a path, if the call doesn't fail.
+    /// Puts a file, or none, at a path, if the call doesn't fail.
     pub(crate) fn change(&mut self, path: &str, node: Option<usize>) -> io::Result<()>
         ensures { self.new.past.calls ≡ self.old.past.calls }
     {
@@ -282,7 +282,7 @@ impl MemoryFolder {
         answer_of(fails)
     }
 
-    // Puts a file at a path in place of another path, if the call doesn't fail.
+    /// Puts a file at a path in place of another path, if the call doesn't fail.
     pub(crate) fn change_path(&mut self, node: usize, from: &str, to: &str) -> io::Result<()>
         ensures { self.new.past.calls ≡ self.old.past.calls }
     {
@@ -294,7 +294,7 @@ impl MemoryFolder {
         answer_of(fails)
     }
 
-    // A call that has nothing to do, and may fail.
+    /// A call that has nothing to do, and may fail.
     pub(crate) fn change_nothing(&mut self) -> io::Result<()>
         ensures { self.new.past.calls ≡ self.old.past.calls }
     {
@@ -302,7 +302,7 @@ impl MemoryFolder {
         answer_of(fails)
     }
 
-    // Writes the names in a folder to the disk, if the call doesn't fail.
+    /// Writes the names in a folder to the disk, if the call doesn't fail.
     pub(crate) fn write_names(&mut self, folder: &str) -> io::Result<()>
         ensures { self.new.past.calls ≡ self.old.past.calls }
     {
@@ -319,7 +319,7 @@ impl MemoryFolder {
         self.past = Record::with(&self.past, call, is_ok);
     }
 
-    // Puts a file at a path at which nothing is.
+    /// Puts a file at a path at which nothing is.
     pub(crate) fn add(&mut self, node: usize, to: &str) -> io::Result<()>
         ensures { self.new.past.calls ≡ self.old.past.calls }
     {

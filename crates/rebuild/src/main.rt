@@ -48,7 +48,7 @@ fn main(rt: HostRuntime) -> ExitCode {
     ExitCode::from(status)
 }
 
-// What the arguments after the program's name ask for.
+/// What the arguments after the program's name ask for.
 fn asked(rt: &HostRuntime) -> Result<Words, WordsFault> {
     let arguments = match arguments(rt) {
         Ok(arguments) => arguments,
@@ -65,8 +65,8 @@ fn arguments(rt: &HostRuntime) -> io::Result<Vec<String>> {
     Ok(env::args(rt)?.skip(1).collect(rt.alloc())?)
 }
 
-// Replies to the lines of standard input on standard output, and gives the exit status. At a terminal it says so first, since nothing
-// is printed before the input has ended.
+/// Replies to the lines of standard input on standard output, and gives the exit status. At a terminal it says so first, since nothing
+/// is printed before the input has ended.
 fn answer_lines<T: Threads + Sync>(rt: &T, system: &HostRuntime) -> u8 {
     if system.stdin().is_terminal() {
         let _ = eprintln!(system; "{AT_TERMINAL}");
@@ -83,7 +83,7 @@ fn answer_lines<T: Threads + Sync>(rt: &T, system: &HostRuntime) -> u8 {
     line_status(&answered)
 }
 
-// Serves one folder into another, says how that ended, and gives the exit status.
+/// Serves one folder into another, says how that ended, and gives the exit status.
 fn answer_farm<R>(rt: &R, system: &HostRuntime, input: &str, output: &str, settings: Settings) -> u8
 where
     R: Threads + Wait + Sync + Print + Eprint + AllocGlobal,
@@ -105,7 +105,7 @@ where
     farm_status(&served)
 }
 
-// Shows a text that was asked for.
+/// Shows a text that was asked for.
 fn show(rt: &HostRuntime, text: &str) -> u8 {
     match print!(rt; "{text}") {
         Ok(()) => DONE,
@@ -113,7 +113,7 @@ fn show(rt: &HostRuntime, text: &str) -> u8 {
     }
 }
 
-// Says why arguments are refused.
+/// Says why arguments are refused.
 fn refuse_arguments(rt: &HostRuntime, text: &str) -> u8 {
     let _ = eprint!(rt; "{text}");
     USAGE

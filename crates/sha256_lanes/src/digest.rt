@@ -47,7 +47,7 @@ pub(crate) fn whole_blocks(message: &[u8]) -> usize
     message.len() / 64
 }
 
-// The hash value of message `l`.
+/// The hash value of message `l`.
 fn hash_value(state: &[u32x8; 8], l: usize) -> [u32; 8]
     requires { l < 8 }
     ensures { result ≡ lane l state.now }
@@ -64,7 +64,7 @@ fn hash_value(state: &[u32x8; 8], l: usize) -> [u32; 8]
     ]
 }
 
-// A hash value as bytes, high first.
+/// A hash value as bytes, high first.
 fn bytes_of(h: [u32; 8]) -> Digest
     ensures { result ≡ digest_bytes h 8 }
 {

@@ -22,7 +22,7 @@ use std::simd::u32x8;
 /// ```
 #[derive(Clone, Copy, Debug)]
 pub struct HasherOfEight {
-    // The words of the hash values.
+    /// The words of the hash values.
     h0: u32x8,
     h1: u32x8,
     h2: u32x8,
@@ -31,7 +31,7 @@ pub struct HasherOfEight {
     h5: u32x8,
     h6: u32x8,
     h7: u32x8,
-    // How many bytes of each message were taken in, modulo 2^64.
+    /// How many bytes of each message were taken in, modulo 2^64.
     taken: u64,
 }
 
@@ -43,7 +43,7 @@ impl HasherOfEight {
         HasherOfEight::of(initial_state(), 0)
     }
 
-    // The hasher of these hash values, after so many bytes.
+    /// The hasher of these hash values, after so many bytes.
     fn of(state: [u32x8; 8], taken: u64) -> HasherOfEight
         ensures state { state_of result ≡ state }
         ensures taken { result.taken ≡ taken }
@@ -62,7 +62,7 @@ impl HasherOfEight {
         }
     }
 
-    // The hash values.
+    /// The hash values.
     fn state(self) -> [u32x8; 8]
         ensures { result ≡ state_of self }
     {
@@ -106,7 +106,7 @@ impl HasherOfEight {
     }
 }
 
-// The hash value of each message after its end and its padding.
+/// The hash value of each message after its end and its padding.
 fn hash_values(hasher: HasherOfEight, ends: &[&[u8]; 8]) -> [u32x8; 8]
     requires { AreOfOneLength ends.now }
     ensures { (m : ℕ → List ℕ) → HasTaken hasher m → (l : ℕ) → l < 8

@@ -9,8 +9,8 @@ use crate::hasher::digests_of_eight;
 use sha2::{Digest as _, Sha256};
 use std::convert::AsSlice;
 
-// Writes the digests of the next messages from `at` on, of eight where so many are left and have one length, else of one.
-// Returns the index of the first message after them.
+/// Writes the digests of the next messages from `at` on, of eight where so many are left and have one length, else of one.
+/// Returns the index of the first message after them.
 fn next_digests<T: AsSlice<u8>>(messages: &[T], at: usize, out: &mut [Digest]) -> usize
     requires within { at < length messages.now }
     requires room { length out.old ≡ length messages.now }

@@ -53,7 +53,7 @@ pub fn read_arguments<'a>(
     }
 }
 
-// The definition of the program.
+/// The definition of the program.
 fn program<'a>(alloc: Global) -> Result<Definition<'a>, AllocError> {
     Definition::new(alloc, NAME)
         .bin_name(NAME)?
@@ -71,7 +71,7 @@ fn program<'a>(alloc: Global) -> Result<Definition<'a>, AllocError> {
         .subcommand(remove::definition(alloc)?)
 }
 
-// The command that matches name.
+/// The command that matches name.
 fn command_of<'a>(alloc: Global, matches: &ArgMatches<'a>) -> Result<Command<'a>, UsageFault> {
     match matches.subcommand() {
         Some(("repair", matches)) => Ok(Command::Repair(RepairOptions::of(matches)?)),
@@ -86,7 +86,7 @@ fn command_of<'a>(alloc: Global, matches: &ArgMatches<'a>) -> Result<Command<'a>
     }
 }
 
-// The text of help, of the version or of a mistake.
+/// The text of help, of the version or of a mistake.
 fn shown<'a>(alloc: Global, error: &ParseError) -> Result<Command<'a>, UsageFault> {
     match error.kind() {
         ErrorKind::OutOfMemory => Err(UsageFault::OutOfMemory),
@@ -100,7 +100,7 @@ fn shown<'a>(alloc: Global, error: &ParseError) -> Result<Command<'a>, UsageFaul
     }
 }
 
-// The text of a mistake without the tip that a word which begins with a hyphen may be meant as a value: it seldom is.
+/// The text of a mistake without the tip that a word which begins with a hyphen may be meant as a value: it seldom is.
 fn without_tip(alloc: Global, text: &str) -> Result<String, AllocError> {
     if let Some((before, after)) = text.split_once("\n  tip: to pass ") {
         if let Some((_, rest)) = after.split_once("\n\n") {

@@ -45,10 +45,10 @@ const REPLACE: Argument = Argument {
     ..FLAG
 };
 
-// The folder and the files; how the stripes are made and named.
+/// The folder and the files; how the stripes are made and named.
 static ARGUMENTS: &[Argument] = &[STORE, FILES, CODE_OF_STRIPES, NAMES, LAYOUT];
 
-// What may be done.
+/// What may be done.
 static PERMISSIONS: &[Argument] = &[FOLLOW, TRUST, UNMOUNTED, AS, FOLDERS, REPLACE, QUIET];
 
 /// What `encode` is given.

@@ -45,7 +45,7 @@ const READS: Argument = Argument {
     ..TEXT
 };
 
-// The arguments that it has alone, and the number of threads.
+/// The arguments that it has alone, and the number of threads.
 static ARGUMENTS: &[Argument] = &[
     WORKERS, DRY_RUN, REPLACE, ASSUME, TO, TRUST, UNMOUNTED, READS,
 ];
@@ -95,7 +95,7 @@ impl<'a> RepairOptions<'a> {
     }
 }
 
-// Which survivors are read, by a name that the parser let pass; if none is given, all where damage is looked for.
+/// Which survivors are read, by a name that the parser let pass; if none is given, all where damage is looked for.
 fn reads_of(name: Option<&str>, looks_for_damage: bool) -> Reads {
     match name {
         Some("all") => Reads::All,

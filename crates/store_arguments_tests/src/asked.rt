@@ -8,7 +8,7 @@ use store_arguments::{
 use store_folder::{Links, Part};
 use store_repair::Reads;
 
-// Options before the store and after it, with their values behind a space or an equals sign.
+/// Options before the store and after it, with their values behind a space or an equals sign.
 const REPAIRS: [&str; 2] = [
     "repair --code 12-2-2 --names d{shard}/{stripe} --layout groups --follow-links --stripes names --part 3/10 --workers 16 \
      --rate 50M --progress rate --sums sums --report rows --json --dry-run --replace-damaged --assume-one-damaged --to new --reads few \
@@ -18,7 +18,7 @@ const REPAIRS: [&str; 2] = [
      --trust-writers --allow-unmounted",
 ];
 
-// Whether the options of a store are those of these lines.
+/// Whether the options of a store are those of these lines.
 fn is_store_as_asked(store: &StoreOptions<'_>) -> bool {
     store.folder == "s"
         && store.code == Some(Code::Wide)
@@ -27,7 +27,7 @@ fn is_store_as_asked(store: &StoreOptions<'_>) -> bool {
         && store.part == Some(Part { index: 3, of: 10 })
 }
 
-// Whether those of the tests of fragments are.
+/// Whether those of the tests of fragments are.
 fn is_test_as_asked(test: &TestOptions<'_>) -> bool {
     test.sums == Some("sums")
         && test.report == Some("rows")
@@ -37,7 +37,7 @@ fn is_test_as_asked(test: &TestOptions<'_>) -> bool {
         && test.workers == 16
 }
 
-// Whether the names are in the layout of groups, in which px is number 6 of the wide code.
+/// Whether the names are in the layout of groups, in which px is number 6 of the wide code.
 fn is_in_groups(alloc: Global, store: &StoreOptions<'_>) -> Result<bool, AllocError> {
     let name = store
         .naming
@@ -46,7 +46,7 @@ fn is_in_groups(alloc: Global, store: &StoreOptions<'_>) -> Result<bool, AllocEr
     Ok(matches!(&name, Some(name) if name.as_str() == "d6/n"))
 }
 
-// Whether all options of a repair are as in these lines.
+/// Whether all options of a repair are as in these lines.
 fn is_repair_as_asked(alloc: Global, options: &RepairOptions<'_>) -> Result<bool, AllocError> {
     Ok(
         is_store_as_asked(&options.store)
@@ -58,7 +58,7 @@ fn is_repair_as_asked(alloc: Global, options: &RepairOptions<'_>) -> Result<bool
     )
 }
 
-// Whether a line asks for that repair.
+/// Whether a line asks for that repair.
 fn asks_for_all(alloc: Global, line: &str) -> Result<bool, AllocError> {
     match read_arguments(alloc, words_of(alloc, line)?.as_slice()) {
         Ok(Command::Repair(options)) => is_repair_as_asked(alloc, &options),
@@ -73,7 +73,7 @@ fn all_options_of_a_repair(rt: HostRuntime) {
     }
 }
 
-// The options of a repair without a value.
+/// The options of a repair without a value.
 fn flags_of(options: &RepairOptions<'_>) -> [bool; 6] {
     [
         options.dry_run,
@@ -85,7 +85,7 @@ fn flags_of(options: &RepairOptions<'_>) -> [bool; 6] {
     ]
 }
 
-// Which survivors a line has a repair read: as few as are checked, if it doesn't say, or all if it looks for damage.
+/// Which survivors a line has a repair read: as few as are checked, if it doesn't say, or all if it looks for damage.
 const READS: [(&str, Reads); 6] = [
     ("repair s", Reads::Checked),
     ("repair --reads checked --replace-damaged s", Reads::Checked),
@@ -105,7 +105,7 @@ fn survivors_that_are_read(rt: HostRuntime) {
     }
 }
 
-// What files are encoded, verified, taken out, listed or read with.
+/// What files are encoded, verified, taken out, listed or read with.
 const OF_FILES: [&str; 5] = [
     "encode s a --as b --make-folders --replace --allow-unmounted -q",
     "read s a -o b --quiet",
@@ -114,7 +114,7 @@ const OF_FILES: [&str; 5] = [
     "remove s a b --code 12-2-2 --trust-writers -q",
 ];
 
-// Whether the command of each line is as it asks for.
+/// Whether the command of each line is as it asks for.
 fn is_of_files(command: &Command<'_>) -> bool {
     match command {
         Command::Encode(options) => {
@@ -139,7 +139,7 @@ fn is_of_files(command: &Command<'_>) -> bool {
     }
 }
 
-// The options of an encoding without a value.
+/// The options of an encoding without a value.
 fn flags_of_encode(options: &EncodeOptions<'_>) -> [bool; 4] {
     [
         options.makes_folders,
@@ -149,12 +149,12 @@ fn flags_of_encode(options: &EncodeOptions<'_>) -> [bool; 4] {
     ]
 }
 
-// Whether these are the names a and b.
+/// Whether these are the names a and b.
 fn are_both(names: &[&str]) -> bool {
     names == ["a", "b"].as_slice()
 }
 
-// Whether what a line asks for is so.
+/// Whether what a line asks for is so.
 fn asks<F: Fn(&Command<'_>) -> bool>(
     alloc: Global,
     line: &str,
@@ -175,7 +175,7 @@ fn options_of_files(rt: HostRuntime) {
     }
 }
 
-// Whether the command of each line without options is as it must be.
+/// Whether the command of each line without options is as it must be.
 fn is_plain(command: &Command<'_>) -> bool {
     match command {
         Command::Repair(options) => is_plain_repair(options),
@@ -208,7 +208,7 @@ fn is_plain_encode(options: &EncodeOptions<'_>) -> bool {
         && !options.trusts_writers
 }
 
-// Numbers of bytes, and how many each is.
+/// Numbers of bytes, and how many each is.
 const RATES: [(&str, u64); 5] = [
     ("scrub --rate 1 s", 1),
     ("scrub --rate=1023 s", 1_023),
@@ -217,7 +217,7 @@ const RATES: [(&str, u64); 5] = [
     ("scrub --rate 18446744073709551615 s", u64::MAX),
 ];
 
-// Whether a line asks for this rate.
+/// Whether a line asks for this rate.
 fn is_rate(alloc: Global, line: &str, rate: u64) -> Result<bool, AllocError> {
     match read_arguments(alloc, words_of(alloc, line)?.as_slice()) {
         Ok(Command::Scrub(options)) => Ok(options.test.rate == Some(rate)),
@@ -239,10 +239,10 @@ fn what_holds_without_options(rt: HostRuntime) {
     }
 }
 
-// The pattern of names that holds without an option.
+/// The pattern of names that holds without an option.
 const PLAIN: &str = "{stripe}.{place}";
 
-// Whether a store is `s`, and nothing else was given of it.
+/// Whether a store is `s`, and nothing else was given of it.
 fn is_plain_store(store: &StoreOptions<'_>) -> bool {
     store.folder == "s"
         && store.code.is_none()
@@ -252,7 +252,7 @@ fn is_plain_store(store: &StoreOptions<'_>) -> bool {
         && store.part.is_none()
 }
 
-// Whether nothing was given of the tests of fragments.
+/// Whether nothing was given of the tests of fragments.
 fn is_plain_test(test: &TestOptions<'_>) -> bool {
     test.sums.is_none()
         && test.report.is_none()
@@ -262,7 +262,7 @@ fn is_plain_test(test: &TestOptions<'_>) -> bool {
         && test.workers == 4
 }
 
-// A line, and words that the text it shows has.
+/// A line, and words that the text it shows has.
 const SHOWN: [(&str, &str); 3] = [
     ("--version", "rebuild-store 0.1.0\n"),
     ("-V", "rebuild-store 0.1.0\n"),
@@ -273,7 +273,7 @@ const SHOWN: [(&str, &str); 3] = [
     ),
 ];
 
-// Whether a line has a text shown that begins so.
+/// Whether a line has a text shown that begins so.
 fn shows(alloc: Global, line: &str, text: &str) -> Result<bool, AllocError> {
     match read_arguments(alloc, words_of(alloc, line)?.as_slice()) {
         Ok(Command::Help(shown)) => Ok(shown.starts_with(text)),

@@ -4,7 +4,7 @@ use std::alloc::{AllocError, Global};
 use std::process::Abort;
 use store_arguments::read_arguments;
 
-// The texts of the parser are those of clap, of whose usage each command's line is one.
+/// The texts of the parser are those of clap, of whose usage each command's line is one.
 static REFUSALS: [(&str, &str); 29] = [
     ("encode s -", "error: - needs a name, --as NAME\n"),
     (
@@ -129,7 +129,7 @@ static REFUSALS: [(&str, &str); 29] = [
     ),
 ];
 
-// What is said of a line: nothing, if it isn't refused.
+/// What is said of a line: nothing, if it isn't refused.
 fn said_of(alloc: Global, line: &str) -> Result<String, AllocError> {
     match read_arguments(alloc, words_of(alloc, line)?.as_slice()) {
         Ok(_) => Ok(String::new(alloc)),
@@ -137,7 +137,7 @@ fn said_of(alloc: Global, line: &str) -> Result<String, AllocError> {
     }
 }
 
-// Asserts that this is said of a line.
+/// Asserts that this is said of a line.
 fn assert_said(rt: &impl Abort, said: &str, (line, text): &(&str, &str)) {
     assert!(rt; said == *text, "{line}: {said}");
 }

@@ -18,8 +18,8 @@ use store_repair::{Found, Outcome, Repair, Stripe, plan_stripe, repair_stripe, s
 use store_reports::{Contents, Done, without_left, without_repeated};
 use tasks::{bytes_of, bytes_read};
 
-// The memory that is taken and given back before the work. The C library gives free memory back to the system after each stripe, unless
-// it has seen a block come back that is as large: it then keeps twice as much. It looks at no block of more than 32 MiB.
+/// The memory that is taken and given back before the work. The C library gives free memory back to the system after each stripe, unless
+/// it has seen a block come back that is as large: it then keeps twice as much. It looks at no block of more than 32 MiB.
 const HELD: usize = 25_165_824;
 
 /// What is done with each stripe.
@@ -66,7 +66,7 @@ pub(crate) struct Worked {
 }
 
 impl Work {
-    // What is done with the copies of descriptions.
+    /// What is done with the copies of descriptions.
     fn with_copies(&self) -> CopyWork {
         match self {
             Work::Repair(repair) => CopyWork::Make {
@@ -79,7 +79,7 @@ impl Work {
         }
     }
 
-    // How many bytes of a stripe are read.
+    /// How many bytes of a stripe are read.
     fn bytes_of(
         &self,
         alloc: Global,
@@ -94,7 +94,7 @@ impl Work {
         }
     }
 
-    // How many units a stripe is of which this became.
+    /// How many units a stripe is of which this became.
     fn units_of(&self, outcome: &Outcome) -> u64 {
         match self {
             Work::Repair(_) | Work::Plan(_) => outcome.rebuilt.len() as u64,
@@ -132,7 +132,7 @@ pub(crate) fn work_on<R: Threads + Sync>(
     Ok(Worked { all, held })
 }
 
-// The indexes of the stripes in the order in which they are worked on: those of which fewest fragments are there first.
+/// The indexes of the stripes in the order in which they are worked on: those of which fewest fragments are there first.
 fn by_losses(alloc: Global, stripes: &[Stripe<'_>]) -> Result<Vec<usize>, AllocError> {
     let mut counted = Vec::with_capacity(alloc, stripes.len())?;
     for (index, stripe) in stripes.iter().enumerate() {
@@ -150,7 +150,7 @@ fn by_losses(alloc: Global, stripes: &[Stripe<'_>]) -> Result<Vec<usize>, AllocE
     Ok(order)
 }
 
-// Takes one stripe after the other, each the next that no thread has taken.
+/// Takes one stripe after the other, each the next that no thread has taken.
 fn take_stripes(
     system: &HostRuntime,
     stripes: &Stripes<'_>,
@@ -194,7 +194,7 @@ fn take_stripes(
     Ok(Worked { all, held })
 }
 
-// Does the work with the descriptions of a stripe whose fragments have so many bytes, if it has any.
+/// Does the work with the descriptions of a stripe whose fragments have so many bytes, if it has any.
 fn descriptions_of(
     system: &HostRuntime,
     stripes: &Stripes<'_>,
@@ -216,7 +216,7 @@ fn descriptions_of(
     Ok(Some(done))
 }
 
-// Does the work with the fragments of a stripe.
+/// Does the work with the fragments of a stripe.
 fn outcome_of(
     alloc: Global,
     store: &mut SeparateStore<'_, CountingFolder<SystemFolder<'_>>>,

@@ -124,7 +124,7 @@ pub(crate) fn encode_as<R: Threads + Sync>(
     place_descriptions(rt, target, name, &described)
 }
 
-// Refuses a file the names of whose fragments would be those of something else.
+/// Refuses a file the names of whose fragments would be those of something else.
 fn refuse_names(
     rt: &HostRuntime,
     target: &Target<'_>,
@@ -143,7 +143,7 @@ fn refuse_names(
     Ok(())
 }
 
-// Whether there is a description of a stripe.
+/// Whether there is a description of a stripe.
 fn is_described(rt: &HostRuntime, target: &Target<'_>, name: &str) -> Result<bool, FileFault> {
     let alloc = rt.alloc();
     for description in target.descriptions(alloc, name)? {
@@ -155,7 +155,7 @@ fn is_described(rt: &HostRuntime, target: &Target<'_>, name: &str) -> Result<boo
     Ok(false)
 }
 
-// What is to be said of a file whose digest is known.
+/// What is to be said of a file whose digest is known.
 fn described_as(code: Code, given: &Given<'_>) -> Option<Described> {
     let digest = given.digest?;
     let length = given.before.len();
@@ -166,7 +166,7 @@ fn described_as(code: Code, given: &Given<'_>) -> Option<Described> {
     })
 }
 
-// Refuses a file beside whose stripe's names there is another description, or a fragment at a place that its code hasn't.
+/// Refuses a file beside whose stripe's names there is another description, or a fragment at a place that its code hasn't.
 fn refuse_others(
     rt: &HostRuntime,
     target: &Target<'_>,

@@ -27,7 +27,7 @@ pub(crate) fn remove_own_folders(
     Ok(())
 }
 
-// Whether a folder is one of some folders, or one of these is below it.
+/// Whether a folder is one of some folders, or one of these is below it.
 fn is_above(folder: &str, others: &[String]) -> bool {
     let is_at_or_below = |other: &String| {
         match other.as_str().strip_prefix(folder) {
@@ -38,7 +38,7 @@ fn is_above(folder: &str, others: &[String]) -> bool {
     others.iter().any(is_at_or_below)
 }
 
-// Removes a folder of the store if nothing is in it.
+/// Removes a folder of the store if nothing is in it.
 fn remove_empty(rt: &HostRuntime, target: &Target<'_>, inside: &str) -> Result<(), AllocError> {
     if refuse_linked_folders(rt, target.folder, inside, target.links).is_err() {
         return Ok(());

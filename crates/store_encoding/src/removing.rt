@@ -56,8 +56,8 @@ pub fn remove_stored(
     Ok(remove_own_folders(rt, target, name, staged.as_str())?)
 }
 
-// Writes the digests that are left, and takes the files of some descriptions and fragments away. Whenever that ends, each of them has what
-// it had, or nothing, the digests' path has what it had, or all of the text, and no other path has changed but temporary ones.
+/// Writes the digests that are left, and takes the files of some descriptions and fragments away. Whenever that ends, each of them has what
+/// it had, or nothing, the digests' path has what it had, or all of the text, and no other path has changed but temporary ones.
 fn take_out<F: Folder>(
     rt: &HostRuntime,
     files: &mut F,
@@ -73,7 +73,7 @@ fn take_out<F: Folder>(
     remove_names(rt, files, target, fragments)
 }
 
-// Whether there is anything under one of some names.
+/// Whether there is anything under one of some names.
 fn has_any(rt: &HostRuntime, target: &Target<'_>, names: &[String]) -> Result<bool, FileFault> {
     for name in names {
         let path = target.path(rt.alloc(), name.as_str())?;
@@ -109,7 +109,7 @@ pub(crate) fn remove_names<F: Folder>(
     }
 }
 
-// That the name at an index has no regular file.
+/// That the name at an index has no regular file.
 fn no_file(alloc: Global, names: &[String], index: usize) -> Result<FileFault, AllocError> {
     let name = names.get(index).map_or("", |name| name.as_str());
     Ok(FileFault::Refused {

@@ -28,7 +28,7 @@ pub fn take_files<F: Folder>(files: &mut F, paths: Vec<String>) -> Result<Option
     Ok(odd)
 }
 
-// Takes the regular file at a path away, if one is there. False if something else is.
+/// Takes the regular file at a path away, if one is there. False if something else is.
 fn take_file<F: Folder>(files: &mut F, path: &str) -> io::Result<bool>
     ensures rest { KeepsRest (F.calls files.old) (F.calls files.new) }
     ensures whenever { KeepsBut path.now (F.calls files.old) (F.calls files.new) }

@@ -124,7 +124,7 @@ impl Copies {
         None
     }
 
-    // How many copies say the same.
+    /// How many copies say the same.
     fn agreeing(&self, described: &Described) -> usize {
         let says = |copy: &FoundCopy| {
             match &copy.state {

@@ -12,6 +12,7 @@ mod copies;
 mod faults;
 mod lines;
 mod names;
+mod outputs;
 mod statuses;
 mod system_words;
 
@@ -20,5 +21,6 @@ pub use faults::file::{FileFault, device, source_fault};
 pub use faults::store::{StoreFault, device_fault};
 pub use lines::{escaped, say, write};
 pub use names::fragment_name;
+pub use outputs::{COUNTER_PREFIX, REPORT_HEADER, ROW_BEGIN};
 pub use statuses::{DEVICE, DONE, LEFT, NO_MEDIUM, NO_MEMORY, USAGE};
 pub use system_words::{without_number, words_of};

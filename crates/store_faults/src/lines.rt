@@ -30,7 +30,7 @@ pub fn escaped(alloc: Global, text: &str) -> Result<String, AllocError>
     Ok(line)
 }
 
-// Appends a character, or what is written for it.
+/// Appends a character, or what is written for it.
 fn push_escaped(line: &mut String, letter: char) -> Result<(), AllocError>
     ensures { OnOk result (AreShown (string_bytes line.old) → AreShown (string_bytes line.new)) }
 {
@@ -41,7 +41,7 @@ fn push_escaped(line: &mut String, letter: char) -> Result<(), AllocError>
     }
 }
 
-// Appends a character that is no control character.
+/// Appends a character that is no control character.
 fn push_shown(line: &mut String, letter: char) -> Result<(), AllocError>
     requires { is_control letter ≡ false }
     ensures { OnOk result (AreShown (string_bytes line.old) → AreShown (string_bytes line.new)) }
@@ -49,7 +49,7 @@ fn push_shown(line: &mut String, letter: char) -> Result<(), AllocError>
     line.push(letter)
 }
 
-// Appends a text without control characters.
+/// Appends a text without control characters.
 fn append(line: &mut String, text: &str) -> Result<(), AllocError>
     requires { AreShown text.now }
     ensures { OnOk result (AreShown (string_bytes line.old) → AreShown (string_bytes line.new)) }
@@ -57,7 +57,7 @@ fn append(line: &mut String, text: &str) -> Result<(), AllocError>
     line.push_str(text)
 }
 
-// The short form of a control character, if it has one.
+/// The short form of a control character, if it has one.
 fn short_escape(letter: char) -> Option<&'static str>
     ensures { IfSome result (λ s. AreShown s.now) }
 {
@@ -73,7 +73,7 @@ fn short_escape(letter: char) -> Option<&'static str>
     }
 }
 
-// Appends the octal digits of a character's bytes. A control character is below 256, and has two bytes from 128 on.
+/// Appends the octal digits of a character's bytes. A control character is below 256, and has two bytes from 128 on.
 fn push_octal(line: &mut String, letter: char) -> Result<(), AllocError>
     ensures { OnOk result (AreShown (string_bytes line.old) → AreShown (string_bytes line.new)) }
 {
@@ -84,14 +84,14 @@ fn push_octal(line: &mut String, letter: char) -> Result<(), AllocError>
     append(line, digit(code))
 }
 
-// What is before the three digits of a control character's last byte.
+/// What is before the three digits of a control character's last byte.
 fn before_digits(code: u32) -> &'static str
     ensures { AreShown result.now }
 {
     if code >= 128 { "\\302\\" } else { "\\" }
 }
 
-// The last octal digit of a number.
+/// The last octal digit of a number.
 fn digit(number: u32) -> &'static str
     ensures { AreShown result.now }
 {

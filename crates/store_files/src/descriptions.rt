@@ -45,7 +45,7 @@ pub fn descriptions_of(
     }
 }
 
-// That nothing describes a file: it isn't in the store, or its descriptions are lost.
+/// That nothing describes a file: it isn't in the store, or its descriptions are lost.
 fn undescribed(rt: &HostRuntime, file: &StoredFile<'_, '_>) -> Result<FileFault, FileFault> {
     let alloc = rt.alloc();
     let StoredFile { folder, name, .. } = *file;
@@ -78,7 +78,7 @@ pub fn first_described(
     Ok(None)
 }
 
-// What descriptions say, each once, first what most say.
+/// What descriptions say, each once, first what most say.
 fn in_order(alloc: Global, said: &[Described]) -> Result<Vec<Described>, FileFault> {
     let mut order = Vec::new(alloc);
     for votes in (1..=said.len()).rev() {
@@ -92,7 +92,7 @@ fn in_order(alloc: Global, said: &[Described]) -> Result<Vec<Described>, FileFau
     Ok(order)
 }
 
-// The description in a copy; none where there is none.
+/// The description in a copy; none where there is none.
 fn description_at(
     rt: &HostRuntime,
     file: &StoredFile<'_, '_>,

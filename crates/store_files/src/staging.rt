@@ -7,7 +7,7 @@ use std::fs;
 use store_faults::{FileFault, device, fragment_name};
 use store_folder::{is_absent, path_in, refuse_linked_folders};
 
-// How the name of a stripe ends that is to replace another one.
+/// How the name of a stripe ends that is to replace another one.
 const STAGED: &str = ".rebuild-store-new";
 
 /// The name of the stripe that is to replace the one of a name.

@@ -9,13 +9,13 @@ use std::io;
 use store_records::Digest;
 use store_repair::Fragment;
 
-// How many bytes of a file are read at once: whole blocks of SHA-256.
+/// How many bytes of a file are read at once: whole blocks of SHA-256.
 const BLOCK: usize = 262_144;
 
-// How many fragments are digested side by side.
+/// How many fragments are digested side by side.
 const LANES: usize = 8;
 
-// Of fewer each is digested by itself, which takes less time.
+/// Of fewer each is digested by itself, which takes less time.
 const LEAST_TOGETHER: usize = 3;
 
 /// The digest of a fragment of so many bytes.
@@ -56,7 +56,7 @@ pub fn digests_of<F: Fragment>(
     Ok(found)
 }
 
-// Adds the digests of at most eight fragments, which are read side by side.
+/// Adds the digests of at most eight fragments, which are read side by side.
 fn add_together<F: Fragment>(
     alloc: Global,
     fragments: &[Option<&F>],
@@ -95,7 +95,7 @@ fn add_together<F: Fragment>(
     Ok(())
 }
 
-// Reads so many bytes of each of at most eight fragments from a position on, each into its part of the room.
+/// Reads so many bytes of each of at most eight fragments from a position on, each into its part of the room.
 fn read_eight<F: Fragment>(
     fragments: &[Option<&F>],
     from: usize,
@@ -118,7 +118,7 @@ fn read_eight<F: Fragment>(
     read_one(fragments, 7, from, &mut room[7 * size..8 * size], reads);
 }
 
-// Reads bytes of the fragment at an index from a position on, if there is one of which no read failed before.
+/// Reads bytes of the fragment at an index from a position on, if there is one of which no read failed before.
 fn read_one<F: Fragment>(
     fragments: &[Option<&F>],
     index: usize,
@@ -140,7 +140,7 @@ fn read_one<F: Fragment>(
     }
 }
 
-// The eight parts of a room that have so many bytes each.
+/// The eight parts of a room that have so many bytes each.
 fn eight_parts(room: &[u8], size: usize) -> [&[u8]; 8]
     requires { 8 * size ≤ length room.now }
     ensures one { AreOfOneLength result }

@@ -30,8 +30,8 @@ pub fn expect_listed(
     Ok(count)
 }
 
-// Notes what has to be there by a name that ends as a description's. It is a fragment's where a pattern takes it for one and nothing is
-// known of the stripe that it would describe. Says whether it is the store's.
+/// Notes what has to be there by a name that ends as a description's. It is a fragment's where a pattern takes it for one and nothing is
+/// known of the stripe that it would describe. Says whether it is the store's.
 fn expect_described(
     alloc: Global,
     pattern: &Pattern<'_>,

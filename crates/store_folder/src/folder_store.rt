@@ -33,7 +33,7 @@ pub struct FolderStore<'a, F: Folder> {
     pub(crate) files: F,
     pub(crate) site: Site<'a>,
     touched: Touched,
-    // An unfinished file that could not be removed, and why.
+    /// An unfinished file that could not be removed, and why.
     leftover: Option<NameFault>,
 }
 
@@ -68,13 +68,13 @@ impl<'a, F: Folder> FolderStore<'a, F> {
         self.files
     }
 
-    // The path of a fragment in a folder, if it has a name.
+    /// The path of a fragment in a folder, if it has a name.
     fn path_of(&self, folder: &str, stripe: &str, place: Place) -> io::Result<String> {
         let name = self.site.name_of(self.rt.alloc(), stripe, place)?;
         Ok(path_in(self.rt.alloc(), folder, name.as_str())?)
     }
 
-    // Those of a file of the stripe, whose owner and rights its rebuilt fragments get.
+    /// Those of a file of the stripe, whose owner and rights its rebuilt fragments get.
     fn rights_of(&self, stripe: &str) -> io::Result<Option<Rights>> {
         let mut refused = None;
         for place in self.site.code.places() {
@@ -111,7 +111,7 @@ impl<'a, F: Folder> FolderStore<'a, F> {
         )
     }
 
-    // The path that a new fragment is to have.
+    /// The path that a new fragment is to have.
     fn new_path(&self, stripe: &str, place: Place) -> io::Result<String>
         ensures path { IfOk result (λ path. IsPathOf self.now.site stripe.now place (string_bytes path)) }
         ensures lasting { IfOk result (λ path. is_temporary (string_bytes path) ≡ false) }
@@ -123,7 +123,7 @@ impl<'a, F: Folder> FolderStore<'a, F> {
         Err(io::Error::from(ErrorKind::InvalidInput))
     }
 
-    // The path of a fragment that is to be made.
+    /// The path of a fragment that is to be made.
     fn named_path(&self, stripe: &str, place: Place) -> io::Result<String>
         ensures { IfOk result (λ path. IsPathOf self.now.site stripe.now place (string_bytes path)) }
     {
@@ -188,8 +188,8 @@ impl<'a, F: Folder> FolderStore<'a, F> {
         }
     }
 
-    // Makes a whole file ready for its name, which it says: it has the bytes that it has to have, and the owner and rights of its stripe's
-    // other files.
+    /// Makes a whole file ready for its name, which it says: it has the bytes that it has to have, and the owner and rights of its stripe's
+    /// other files.
     pub(crate) fn finish(
         &self,
         file: &mut UnfinishedFile<F::New>,
@@ -210,7 +210,7 @@ impl<'a, F: Folder> FolderStore<'a, F> {
         self.new_path(stripe, place)
     }
 
-    // Gives a whole file its name, if nothing is there, and takes away the one that it was made at.
+    /// Gives a whole file its name, if nothing is there, and takes away the one that it was made at.
     fn link(&mut self, new: Unfinished<F::New>, path: &str) -> io::Result<Placed>
         ensures site { self.new.site ≡ self.old.site }
         ensures whenever { GivesOne path.now (F.New.written new.file) (F.calls self.old.files) (F.calls self.new.files) }
@@ -238,7 +238,7 @@ impl<'a, F: Folder> FolderStore<'a, F> {
         }
     }
 
-    // What became of a file that was to get a name, by what the system answered.
+    /// What became of a file that was to get a name, by what the system answered.
     fn outcome(&mut self, answer: io::Result<()>, made_at: &str, path: &str) -> io::Result<Placed>
         ensures site { self.new.site ≡ self.old.site }
         ensures calls { F.calls self.new.files ≡ F.calls self.old.files }
@@ -252,8 +252,8 @@ impl<'a, F: Folder> FolderStore<'a, F> {
         Ok(Placed::Placed)
     }
 
-    // Whether a file has its name, by what the system answered, or something that is there is the same: a run that was killed may have
-    // given the name to a file with the same bytes.
+    /// Whether a file has its name, by what the system answered, or something that is there is the same: a run that was killed may have
+    /// given the name to a file with the same bytes.
     fn has_name(&self, answer: io::Result<()>, made_at: &str, path: &str) -> io::Result<bool> {
         match answer {
             Ok(()) => Ok(true),
@@ -262,7 +262,7 @@ impl<'a, F: Folder> FolderStore<'a, F> {
         }
     }
 
-    // Whether what is at a path is a regular file with the bytes of this one.
+    /// Whether what is at a path is a regular file with the bytes of this one.
     fn is_same(&self, made_at: &str, path: &str) -> io::Result<bool> {
         let alloc = self.rt.alloc();
         let length = self.files.status(made_at)?.length;
@@ -275,7 +275,7 @@ impl<'a, F: Folder> FolderStore<'a, F> {
         Ok(digest_of(alloc, &there, length as usize)? == digest)
     }
 
-    // Notes that a name was given in a folder.
+    /// Notes that a name was given in a folder.
     pub(crate) fn touch(&mut self, folder: &str) -> Result<(), AllocError>
         ensures site { self.new.site ≡ self.old.site }
         ensures calls { F.calls self.new.files ≡ F.calls self.old.files }
@@ -285,7 +285,7 @@ impl<'a, F: Folder> FolderStore<'a, F> {
         self.touched.note(self.rt.alloc(), folder)
     }
 
-    // Removes an unfinished file after a failure.
+    /// Removes an unfinished file after a failure.
     pub(crate) fn given_up(&mut self, new: Unfinished<F::New>, error: io::Error) -> io::Error
         ensures site { self.new.site ≡ self.old.site }
         ensures touched { self.new.touched ≡ self.old.touched }
@@ -296,7 +296,7 @@ impl<'a, F: Folder> FolderStore<'a, F> {
         error
     }
 
-    // Removes an unfinished file. What could not be removed is said when names are written to the disk.
+    /// Removes an unfinished file. What could not be removed is said when names are written to the disk.
     pub(crate) fn remove(&mut self, name: String)
         requires { is_temporary (string_bytes name) ≡ true }
         ensures site { self.new.site ≡ self.old.site }

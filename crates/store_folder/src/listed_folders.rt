@@ -72,7 +72,7 @@ impl Listing {
         Ok(())
     }
 
-    // Notes that a watched path is one of the store's.
+    /// Notes that a watched path is one of the store's.
     fn note_watched(&mut self, alloc: Global, watched: &Watched<'_>) -> Result<(), AllocError> {
         if self.watched.is_none() {
             self.watched = Some(String::from_str(alloc, watched.given)?);

@@ -33,7 +33,7 @@ impl<F: Folder> FolderStore<'_, F> {
         file.has_digest(sum)
     }
 
-    // Which of a stripe's fragments don't have the digests that the store's sums say, or can't be read.
+    /// Which of a stripe's fragments don't have the digests that the store's sums say, or can't be read.
     pub(crate) fn refused_fragments(
         &self,
         alloc: Global,

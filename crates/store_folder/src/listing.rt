@@ -2,7 +2,7 @@
 use crate::disks::Unlisted;
 use crate::links::{Links, followed, look_at};
 use crate::stripe_names::StripeNames;
-use crate::watching::{Foreign, Wanted};
+use crate::watching::{Foreign, Wanted, Watched};
 use folders::folder_of;
 use std::alloc::{AllocError, Global};
 use std::collections::BTreeSet;
@@ -11,7 +11,7 @@ use std::io::{self, ErrorKind};
 use store_names::{disk_folders, is_ambiguous, is_of_runs, last_of, path_in};
 use store_repair::Found;
 
-// The folder that a file system keeps for what it finds of lost files: no store's, and no stripe's.
+/// The folder that a file system keeps for what it finds of lost files: no store's, and no stripe's.
 const LOST_AND_FOUND: &str = "lost+found";
 
 /// What is in a folder.
@@ -34,8 +34,10 @@ pub struct Listing {
     pub foreign: Option<Foreign>,
     /// The first path of those that were to be watched that was found to be one of the store's.
     pub watched: Option<String>,
-    // Whether names of descriptions may be those of fragments.
+    /// Whether names of descriptions may be those of fragments.
     pub(crate) is_ambiguous: bool,
+    /// Whether fragments of other parts are looked at too.
+    looks_at_all: bool,
 }
 
 /// Lists the folder at a path. Names that don't fit its pattern are left alone. A folder in it that can't be listed costs what is in it.
@@ -60,6 +62,8 @@ pub fn list(rt: &HostRuntime, folder: &str, wanted: &Wanted<'_>) -> io::Result<L
 impl Listing {
     fn new(rt: &HostRuntime, wanted: &Wanted<'_>) -> Result<Listing, AllocError> {
         let alloc = rt.alloc();
+        let is_ambiguous = is_ambiguous(alloc, &wanted.pattern, wanted.code)?;
+        let may_be_fragment = wanted.watched.iter().any(Watched::may_be_fragment);
         Ok(Listing {
             names: StripeNames::new(alloc, wanted.part),
             unlisted: Vec::new(alloc),
@@ -70,11 +74,12 @@ impl Listing {
             linked: BTreeSet::new(alloc),
             foreign: None,
             watched: None,
-            is_ambiguous: is_ambiguous(alloc, &wanted.pattern, wanted.code)?,
+            is_ambiguous,
+            looks_at_all: is_ambiguous || may_be_fragment,
         })
     }
 
-    // Adds what is under a name in the store's own folder, where fragments are in others.
+    /// Adds what is under a name in the store's own folder, where fragments are in others.
     fn add_own(
         &mut self,
         rt: &HostRuntime,
@@ -92,7 +97,7 @@ impl Listing {
         Ok(())
     }
 
-    // Adds what is in the folder of a disk.
+    /// Adds what is in the folder of a disk.
     fn add_disk(
         &mut self,
         rt: &HostRuntime,
@@ -117,7 +122,7 @@ impl Listing {
         Ok(())
     }
 
-    // Adds what is below the store's own folder, as deep as names are.
+    /// Adds what is below the store's own folder, as deep as names are.
     fn add_below(
         &mut self,
         rt: &HostRuntime,
@@ -144,8 +149,8 @@ impl Listing {
         Ok(())
     }
 
-    // The names in a folder inside the store's, each with that folder's. What is no folder has none, and of one that can't be listed it is
-    // noted; the store's own has to be listed.
+    /// The names in a folder inside the store's, each with that folder's. What is no folder has none, and of one that can't be listed it is
+    /// noted; the store's own has to be listed.
     fn entries(
         &mut self,
         rt: &HostRuntime,
@@ -165,7 +170,7 @@ impl Listing {
         Ok(names)
     }
 
-    // Whether a folder inside the store's can be gone into. Why it can't is noted.
+    /// Whether a folder inside the store's can be gone into. Why it can't is noted.
     fn enters(
         &mut self,
         rt: &HostRuntime,
@@ -202,7 +207,7 @@ impl Listing {
         Ok(true)
     }
 
-    // Adds the names in the folder at a path, each with the name that this has in the store.
+    /// Adds the names in the folder at a path, each with the name that this has in the store.
     fn names_in(
         &mut self,
         rt: &HostRuntime,
@@ -231,16 +236,15 @@ impl Listing {
         Ok(())
     }
 
-    // Keeps a name of the store, unless it is that of another part's fragment: such are only counted, so that a part costs its part, and
-    // listing the names. A watched path may be a fragment of any part.
+    /// Keeps a name of the store, unless it is that of another part's fragment: such are only counted, so that a part costs its part, and
+    /// listing the names. Where a watched path may be a fragment of any part by another name, all are looked at.
     fn keep_name(
         &mut self,
         wanted: &Wanted<'_>,
         name: String,
         names: &mut Vec<String>,
     ) -> Result<(), AllocError> {
-        let is_only_counted = wanted.has_stripes && wanted.watched.is_empty() && !self.is_ambiguous;
-        if wanted.part.is_some() && is_only_counted {
+        if wanted.part.is_some() && wanted.has_stripes && !self.looks_at_all {
             if let Some((stripe, _)) = wanted.pattern.read(wanted.code, name.as_str()) {
                 if !self.names.is_wanted(stripe) {
                     self.names.note_name();
@@ -252,7 +256,7 @@ impl Listing {
         Ok(())
     }
 
-    // Adds what is under a name of the store.
+    /// Adds what is under a name of the store.
     fn add(
         &mut self,
         rt: &HostRuntime,
@@ -279,7 +283,7 @@ impl Listing {
         Ok(())
     }
 
-    // What is at a path at which there is a name; none where that is a folder.
+    /// What is at a path at which there is a name; none where that is a folder.
     fn look(
         &mut self,
         rt: &HostRuntime,
@@ -308,7 +312,7 @@ impl Listing {
         }
     }
 
-    // What the link at a path leads to; its folder is noted.
+    /// What the link at a path leads to; its folder is noted.
     fn look_behind(
         &mut self,
         rt: &HostRuntime,
@@ -328,7 +332,7 @@ impl Listing {
     }
 }
 
-// The path of a folder inside the store's.
+/// The path of a folder inside the store's.
 fn path_inside(alloc: Global, folder: &str, inside: &str) -> Result<String, AllocError> {
     if inside.is_empty() {
         return String::from_str(alloc, folder);
@@ -336,7 +340,7 @@ fn path_inside(alloc: Global, folder: &str, inside: &str) -> Result<String, Allo
     path_in(alloc, folder, inside)
 }
 
-// What something is; none for a folder.
+/// What something is; none for a folder.
 fn found_of(metadata: &Metadata) -> Option<Found> {
     if metadata.is_dir() {
         return None;

@@ -19,7 +19,7 @@ pub(crate) const PRIVATE: u32 = 0o600;
 /// The rights of a new file where the user's mask takes none.
 pub(crate) const OPEN: u32 = 0o666;
 
-// A file gets no rights but these: none to run it, and none that its owner's or group's identity would go with.
+/// A file gets no rights but these: none to run it, and none that its owner's or group's identity would go with.
 const MOST_RIGHTS: u32 = 0o666;
 
 /// A new file that gets a name in a store, or beside one.
@@ -121,7 +121,7 @@ pub(crate) fn try_path<F: Folder>(
     Tried { made_at, placed }
 }
 
-// Gives a file a path if it was found to be whole.
+/// Gives a file a path if it was found to be whole.
 fn place_whole<F: Folder>(
     files: &mut F,
     whole: io::Result<()>,

@@ -79,7 +79,7 @@ fn another_file() -> io::Error {
     io::Error::other("another file came under the name while it was opened")
 }
 
-// That something is no regular file, but maybe a link.
+/// That something is no regular file, but maybe a link.
 fn no_regular_file(is_link: bool) -> io::Error {
     let words = if is_link {
         "is a link, and links aren't followed"

@@ -42,7 +42,7 @@ impl<F: Folder> FolderStore<'_, F> {
         }
     }
 
-    // Gives a whole file the path of another one, which its second path keeps.
+    /// Gives a whole file the path of another one, which its second path keeps.
     fn exchange(&mut self, new: Unfinished<F::New>, path: &str) -> io::Result<Placed>
         requires { is_temporary path.now ≡ false }
         ensures site { self.new.site ≡ self.old.site }
@@ -58,7 +58,7 @@ impl<F: Folder> FolderStore<'_, F> {
         }
     }
 
-    // The same with the second path, and takes away the one that the file was made at.
+    /// The same with the second path, and takes away the one that the file was made at.
     fn exchange_at(
         &mut self,
         new: Unfinished<F::New>,
@@ -91,7 +91,7 @@ impl<F: Folder> FolderStore<'_, F> {
     }
 }
 
-// What became of an unfinished file that was to get the path of another one. If it didn't, it still has the one that it was made at.
+/// What became of an unfinished file that was to get the path of another one. If it didn't, it still has the one that it was made at.
 #[derive(Drop)]
 struct Tried<W> {
     made_at: String,
@@ -99,7 +99,7 @@ struct Tried<W> {
     ghost temporary: { is_temporary (string_bytes made_at) ≡ true },
 }
 
-// Writes a file to the disk and gives it the path of another one, if no bytes of it are missing.
+/// Writes a file to the disk and gives it the path of another one, if no bytes of it are missing.
 fn try_exchange<F: Folder>(
     files: &mut F,
     new: Unfinished<F::New>,
@@ -118,7 +118,7 @@ fn try_exchange<F: Folder>(
     Tried { made_at, exchanged }
 }
 
-// Gives a file the path of another one if it was found to be whole.
+/// Gives a file the path of another one if it was found to be whole.
 fn exchange_whole<F: Folder>(
     files: &mut F,
     whole: io::Result<()>,
@@ -139,7 +139,7 @@ fn exchange_whole<F: Folder>(
     }
 }
 
-// The second path of a fragment, of which is seen that it is no unfinished file's.
+/// The second path of a fragment, of which is seen that it is no unfinished file's.
 fn second_of(alloc: Global, path: &str) -> io::Result<String>
     ensures { IfOk result (λ s. (string_bytes s ≡ second_path path.now) × (is_temporary (string_bytes s) ≡ false)) }
 {

@@ -26,15 +26,15 @@ pub struct SeparateStore<'a, F: Folder> {
 /// A new fragment of such a store.
 #[derive(Drop)]
 pub struct SeparateFile<N: NewFile> {
-    // Where it met no fault.
+    /// Where it met no fault.
     whole: Option<UnfinishedFile<N>>,
     faulty: Option<Faulty<N>>,
-    // What was to be written, also what isn't since it met a fault.
+    /// What was to be written, also what isn't since it met a fault.
     meant: Written,
     ghost written: { IfSome whole (λ file. N.written file.unfinished.file ≡ meant.bytes) } by { Prim.hlevel props },
 }
 
-// The first fault that a fragment met, and the file, if it was made.
+/// The first fault that a fragment met, and the file, if it was made.
 #[derive(Drop)]
 struct Faulty<N: NewFile> {
     error: io::Error,
@@ -81,7 +81,7 @@ impl<N: NewFile + Drop> NewFragment for SeparateFile<N> {
 }
 
 impl<F: Folder> SeparateStore<'_, F> {
-    // Discards what there is of a file that met a fault, and gives this.
+    /// Discards what there is of a file that met a fault, and gives this.
     fn given_up(&mut self, faulty: Option<Faulty<F::New>>) -> io::Error
         ensures site { self.new.store.site ≡ self.old.store.site }
         ensures touched { self.new.store.touched ≡ self.old.store.touched }

@@ -6,7 +6,7 @@ use store_names::Part;
 use store_records::MOST_BYTES;
 use store_repair::{Found, StripeFiles};
 
-// A stripe that nothing else names has so many fragments at least: a file alone may have such a name by chance.
+/// A stripe that nothing else names has so many fragments at least: a file alone may have such a name by chance.
 const LEAST_FRAGMENTS: usize = 2;
 
 /// A file that is named as a fragment, and is of no stripe: it has no other fragment beside it, or the code hasn't its place.
@@ -21,21 +21,21 @@ pub struct Alone {
 pub struct StripeNames {
     part: Option<Part>,
     files: BTreeMap<String, StripeFiles>,
-    // Folders under the names of fragments. They make no stripe.
+    /// Folders under the names of fragments. They make no stripe.
     blocked: Vec<Alone>,
-    // Those that have to be there, and those of which a description is there.
+    /// Those that have to be there, and those of which a description is there.
     expected: BTreeSet<String>,
     described: BTreeSet<String>,
-    // Those of which a file is there that is named as a description and isn't one.
+    /// Those of which a file is there that is named as a description and isn't one.
     doubtful: BTreeSet<String>,
-    // How many files are named as fragments, also those of other parts.
+    /// How many files are named as fragments, also those of other parts.
     named: u64,
-    // How many descriptions say each code, and how many fragments that sums name are at places of each.
+    /// How many descriptions say each code, and how many fragments that sums name are at places of each.
     by_descriptions: Votes,
     by_sums: Votes,
 }
 
-// How many things say each code.
+/// How many things say each code.
 #[derive(Clone, Copy, Default)]
 struct Votes {
     narrow: u64,
@@ -216,7 +216,7 @@ impl StripeNames {
         }
     }
 
-    // How many stripes are of each code by their places.
+    /// How many stripes are of each code by their places.
     fn by_places(&self, doubtful_is: Code) -> Votes {
         let mut votes = Votes::default();
         for files in self.files.values() {
@@ -301,7 +301,7 @@ pub enum Others {
 }
 
 impl StoreStripes {
-    // Whether files are the descriptions of a stripe, and no stripe of their own.
+    /// Whether files are the descriptions of a stripe, and no stripe of their own.
     fn describes(&self, name: &str, files: &StripeFiles, ending: Option<&str>) -> bool {
         let Some(ending) = ending else {
             return false;
@@ -318,7 +318,7 @@ impl StoreStripes {
         self.described.contains(stripe) && files.found.iter().all(is_short)
     }
 
-    // Takes the files of a name for those of a stripe, or each for one that is alone.
+    /// Takes the files of a name for those of a stripe, or each for one that is alone.
     fn settle(
         &mut self,
         alloc: Global,
@@ -342,7 +342,7 @@ impl StoreStripes {
     }
 }
 
-// At how many places of a code there is something.
+/// At how many places of a code there is something.
 fn count_of(files: &StripeFiles, code: Code) -> usize {
     let mut count = 0usize;
     for place in code.places() {
@@ -353,7 +353,7 @@ fn count_of(files: &StripeFiles, code: Code) -> usize {
     count
 }
 
-// The code of a stripe by its places: 12-2-2 if it has one that the (6,2,2) code hasn't, 6-2-2 if it has all of that code, and else this.
+/// The code of a stripe by its places: 12-2-2 if it has one that the (6,2,2) code hasn't, 6-2-2 if it has all of that code, and else this.
 fn said_by(files: &StripeFiles, doubtful_is: Code) -> Code {
     let is_there = |place: &Place| files.at(*place) != Found::Absent;
     if Place::ALL

@@ -14,7 +14,7 @@ pub struct FileFragment<O> {
     opened: Status,
 }
 
-// Whether a file has the length and the times of change that it had.
+/// Whether a file has the length and the times of change that it had.
 fn is_unchanged(before: &Status, now: &Status) -> bool {
     now.length == before.length && now.modified == before.modified && now.changed == before.changed
 }

@@ -56,7 +56,7 @@ fn has(folders: &[String], folder: &str) -> bool
     folders.iter().any(|other| other.as_str() == folder)
 }
 
-// Writes the names in a folder to the disk.
+/// Writes the names in a folder to the disk.
 fn sync_names_of<F: Folder>(files: &mut F, name: String) -> Result<(), NameFault>
     ensures whenever { KeepsEach (F.calls files.old) (F.calls files.new) }
     ensures done { OnOk result (F.calls files.new ≡ (sync_folder (string_bytes name), true) ∷ F.calls files.old) }

@@ -12,10 +12,10 @@ use std::io::{self, ErrorKind};
 use std::random::RandomSource;
 use store_names::{is_free, path_in};
 
-// How many digits at random end the name of an unfinished file.
+/// How many digits at random end the name of an unfinished file.
 const RANDOM_DIGITS: usize = 16;
 
-// How many names are tried for a new file.
+/// How many names are tried for a new file.
 const MOST_NAMES: usize = 100;
 
 /// A new file under a temporary name. Its lock says for as long as it is open that a run works on it.
@@ -24,7 +24,7 @@ pub struct Unfinished<N: NewFile> {
     pub(crate) file: N,
     /// The path that it has meanwhile.
     pub(crate) made_at: String,
-    // Whether all appends succeeded.
+    /// Whether all appends succeeded.
     is_whole: bool,
     ghost temporary: { is_temporary (string_bytes made_at) ≡ true },
     ghost made: { is_temporary (N.path file) ≡ true },
@@ -72,7 +72,7 @@ pub(crate) fn create_unfinished<F: Folder>(
     Err(io::Error::from(ErrorKind::AlreadyExists))
 }
 
-// Makes a file under a temporary name that nothing else has.
+/// Makes a file under a temporary name that nothing else has.
 fn try_name<F: Folder>(
     rt: &HostRuntime,
     files: &mut F,

@@ -18,7 +18,7 @@ use store_repair::NewFragment;
 #[derive(Drop)]
 pub struct UnfinishedFile<N: NewFile> {
     pub(crate) unfinished: Unfinished<N>,
-    // What is digested of it, if it is to have a digest.
+    /// What is digested of it, if it is to have a digest.
     digest: Option<Sha256>,
     ghost digested: { ∥ IsDigested digest (N.written unfinished.file) ∥₁ },
 }
@@ -57,14 +57,14 @@ impl<N: NewFile> UnfinishedFile<N> {
     }
 }
 
-// What is digested of a new file.
+/// What is digested of a new file.
 fn new_digest(is_wanted: bool) -> Option<Sha256>
     ensures { IfSome result (λ d. Holds256 d []) }
 {
     if is_wanted { Some(Sha256::new()) } else { None }
 }
 
-// What was digested, and these bytes after it.
+/// What was digested, and these bytes after it.
 fn with_more(digest: Option<Sha256>, bytes: &[u8]) -> Option<Sha256>
     ensures { (before : List ℕ) → IfSome digest (λ d. Holds256 d before) → IfSome result (λ d. Holds256 d (before ++ bytes.now)) }
 {
@@ -76,7 +76,7 @@ fn with_more(digest: Option<Sha256>, bytes: &[u8]) -> Option<Sha256>
     Some(digest)
 }
 
-// What was digested so far.
+/// What was digested so far.
 fn copy_of(digest: &Option<Sha256>) -> Result<Option<Sha256>, AllocError>
     ensures { IfOk result (λ copy. copy ≡ digest.now) }
 {
@@ -86,7 +86,7 @@ fn copy_of(digest: &Option<Sha256>) -> Result<Option<Sha256>, AllocError>
     }
 }
 
-// Whether what was digested has a digest, if there is one.
+/// Whether what was digested has a digest, if there is one.
 fn is_as_wanted(digest: Option<Sha256>, sum: Option<Digest>) -> bool
     ensures { result ≡ true → (bytes : List ℕ) → IfSome digest (λ d. Holds256 d bytes) → IfSome sum (λ wanted. sha256 bytes ≡ wanted) }
 {

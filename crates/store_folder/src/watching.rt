@@ -1,17 +1,21 @@
 //! How a store is listed, and what is looked out for meanwhile: a path that may be one of its names, folders that others may write into.
 use crate::links::Links;
-use crate::regular::Identity;
+use crate::regular::{Identity, open_regular};
 use crate::sums::SUMS_NAME;
 use folders::folder_of;
 use lrc_code::Code;
 use std::fs::{self, Metadata};
+use std::io::Read;
 use std::os::unix::fs::MetadataExt;
 use store_names::{KEPT, Part, Pattern, described_stripe, is_of_runs, last_of};
 
-// The rights by which others than a file's user may write: of the group, and of everybody.
+/// The rights by which others than a file's user may write: of the group, and of everybody.
 const GROUP_WRITES: u32 = 0o020;
 
 const ALL_WRITE: u32 = 0o002;
+
+/// So many bytes of a file at most say whether a run wrote it.
+const MOST_BEGIN: usize = 64;
 
 /// How a folder is listed.
 #[derive(Clone, Copy)]
@@ -31,18 +35,25 @@ pub struct Wanted<'a> {
 }
 
 /// A path that may lead to a file of a store: as it was given, and of what it leads to the folder, the last part, and which file is
-/// there, if one is.
+/// there, if one is, and whether a run wrote that.
 #[derive(Clone, Copy)]
 pub struct Watched<'a> {
     pub(crate) given: &'a str,
     pub(crate) folder: Identity,
     pub(crate) name: &'a str,
     pub(crate) file: Option<Identity>,
+    pub(crate) is_output: bool,
 }
 
 impl<'a> Watched<'a> {
-    /// A path that was given and leads to this path, if the folder of that is there.
-    pub fn at(rt: &HostRuntime, given: &'a str, path: &'a str) -> Option<Watched<'a>> {
+    /// A path that was given and leads to this path, if the folder of that is there. What a run writes begins with one of these texts, of
+    /// at most 64 bytes, or is empty.
+    pub fn at(
+        rt: &HostRuntime,
+        given: &'a str,
+        path: &'a str,
+        begins: &[&str],
+    ) -> Option<Watched<'a>> {
         let folder = fs::metadata(rt, folder_of(path)).ok()?;
         Some(Watched {
             given,
@@ -51,7 +62,29 @@ impl<'a> Watched<'a> {
             file: fs::metadata(rt, path)
                 .ok()
                 .map(|metadata| Identity::of(&metadata)),
+            is_output: begins_with_one(rt, path, begins),
         })
+    }
+
+    /// Whether a fragment may be at the path by another name.
+    pub(crate) fn may_be_fragment(&self) -> bool {
+        self.file.is_some() && !self.is_output
+    }
+}
+
+/// Whether a regular file is at a path that is empty or begins with one of these texts.
+fn begins_with_one(rt: &HostRuntime, path: &str, begins: &[&str]) -> bool {
+    let Ok(open) = open_regular(rt, path, Links::Followed) else {
+        return false;
+    };
+    let mut file = open.file;
+    let mut bytes = [0; MOST_BEGIN];
+    match file.read(&mut bytes) {
+        Ok(0) => true,
+        Ok(count) => begins
+            .iter()
+            .any(|begin| bytes[..count].starts_with(begin.as_bytes())),
+        Err(_) => false,
     }
 }
 

@@ -30,7 +30,7 @@ pub fn write_over<F: Folder>(
     files.sync_folder(folder)
 }
 
-// Writes a text into an empty file, which gets the owner and the rights of the one at a path, if there is one.
+/// Writes a text into an empty file, which gets the owner and the rights of the one at a path, if there is one.
 fn fill<F: Folder>(
     files: &F,
     file: &mut Unfinished<F::New>,

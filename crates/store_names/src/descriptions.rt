@@ -9,7 +9,7 @@ use std::alloc::{AllocError, Global};
 /// How the name of a description ends.
 pub const DESCRIPTION: &str = ".file";
 
-// How the name of the second copy ends where all fragments of a stripe are in one folder.
+/// How the name of the second copy ends where all fragments of a stripe are in one folder.
 const SECOND: &str = ".file.copy";
 
 /// The stripe that a file describes by the last part of its name.
@@ -45,7 +45,7 @@ pub fn first_description_name(alloc: Global, stripe: &str) -> Result<String, All
     name_in(alloc, "", stripe, DESCRIPTION)
 }
 
-// The name of a stripe's description in a folder of the store.
+/// The name of a stripe's description in a folder of the store.
 fn name_in(alloc: Global, folder: &str, stripe: &str, ending: &str) -> Result<String, AllocError> {
     let mut name = if folder.is_empty() {
         String::from_str(alloc, stripe)?

@@ -22,7 +22,7 @@ pub enum Layout {
     Groups,
 }
 
-// The order of the places of the layouts, which leave out those that a code hasn't.
+/// The order of the places of the layouts, which leave out those that a code hasn't.
 const PLAIN: [Place; 16] = [
     Place::X0,
     Place::X1,

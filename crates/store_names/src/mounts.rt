@@ -12,15 +12,15 @@ pub enum Locking {
     Unknown,
 }
 
-// The types of file systems that one host has at a time.
+/// The types of file systems that one host has at a time.
 const OF_ONE_HOST: &[&str] = &[
     "bcachefs", "btrfs", "ext2", "ext3", "ext4", "f2fs", "jfs", "overlay", "tmpfs", "xfs", "zfs",
 ];
 
-// Those of which flock(2) says that their clients take a lock of a file at the server.
+/// Those of which flock(2) says that their clients take a lock of a file at the server.
 const OF_SERVERS: &[&str] = &["nfs", "nfs4"];
 
-// The options by which such a client takes locks at its own host alone.
+/// The options by which such a client takes locks at its own host alone.
 const OF_CLIENTS: &[&str] = &["local_lock=all", "local_lock=flock", "nolock"];
 
 /// Whom locks keep out at an absolute path without links, by the text of Linux's `/proc/self/mountinfo`.
@@ -40,7 +40,7 @@ pub fn locking_at(alloc: Global, table: &str, path: &str) -> Result<Locking, All
     Ok(found)
 }
 
-// A path as the table has it: with octal numbers for what would end a field.
+/// A path as the table has it: with octal numbers for what would end a field.
 fn as_in_table(alloc: Global, path: &str) -> Result<String, AllocError> {
     let mut text = String::new(alloc);
     for letter in path.chars() {
@@ -55,7 +55,7 @@ fn as_in_table(alloc: Global, path: &str) -> Result<String, AllocError> {
     Ok(text)
 }
 
-// Where a line of the table says that something is mounted, and what its locks are.
+/// Where a line of the table says that something is mounted, and what its locks are.
 fn mount_of(line: &str) -> Option<(&str, Locking)> {
     let (place, system) = line.split_once(" - ")?;
     let point = place.split(' ').nth(4)?;

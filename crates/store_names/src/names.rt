@@ -14,12 +14,12 @@ use std::alloc::{AllocError, Global};
 /// How the second name of a fragment ends that was replaced and is kept.
 pub const KEPT: &str = ".damaged";
 
-// The numbers of the shards.
+/// The numbers of the shards.
 const NUMBERS: [&str; 16] = [
     "0", "1", "2", "3", "4", "5", "6", "7", "8", "9", "10", "11", "12", "13", "14", "15",
 ];
 
-// Whether a text may be a stripe's name: it isn't empty and has no `/`.
+/// Whether a text may be a stripe's name: it isn't empty and has no `/`.
 fn can_be_stripe(text: &[u8]) -> bool
     ensures { result ≡ is_stripe text.now }
 {
@@ -33,22 +33,22 @@ fn has_no_slash(text: &[u8]) -> bool
     text.iter().all(|byte| *byte != b'/')
 }
 
-// Whether a name leads nowhere out of the folder that it is in: none of its parts is empty or `..`.
+/// Whether a name leads nowhere out of the folder that it is in: none of its parts is empty or `..`.
 fn leads_below(name: &str) -> bool
     ensures { result ≡ is_below name.now }
 {
     name.split('/').all(|part| part != "" && part != "..")
 }
 
-// Whether a name is the second one of a fragment.
+/// Whether a name is the second one of a fragment.
 fn is_second(name: &str) -> bool
     ensures { result ≡ is_second name.now }
 {
     name.ends_with(KEPT)
 }
 
-// Whether a fragment may have a name: it leads nowhere out of the store's folder, runs give it to no file of their own that isn't whole
-// yet, and it is no second name.
+/// Whether a fragment may have a name: it leads nowhere out of the store's folder, runs give it to no file of their own that isn't whole
+/// yet, and it is no second name.
 fn is_for_fragments(name: &str) -> bool
     ensures { result ≡ is_for_fragments name.now }
 {
@@ -82,7 +82,7 @@ impl Pattern<'_> {
         Ok(Some(name))
     }
 
-    // The name of a stripe and the key of a place.
+    /// The name of a stripe and the key of a place.
     fn name_with(&self, alloc: Global, stripe: &str, key: &str) -> Result<String, AllocError>
         ensures { IfOk result (λ name. string_bytes name ≡ name_with self.now stripe.now key.now) }
     {
@@ -100,7 +100,7 @@ impl Pattern<'_> {
         Ok(name)
     }
 
-    // How a place is named.
+    /// How a place is named.
     fn key_of(&self, code: Code, place: Place) -> Option<&'static str>
         ensures { option_map (λ key. key.now) result ≡ key_of self.now.naming self.now.layout code place }
     {
@@ -127,7 +127,7 @@ impl Pattern<'_> {
         None
     }
 
-    // The stripe of which a name has the key of a place.
+    /// The stripe of which a name has the key of a place.
     fn stripe_at<'n>(&self, code: Code, place: Place, name: &'n str) -> Option<&'n str>
         ensures { MatchOption result ((stripe : List ℕ) → ¬ IsMade self.now code stripe place name.now)
             (λ stripe. IsMade self.now code stripe.now place name.now) }
@@ -140,7 +140,7 @@ impl Pattern<'_> {
         Some(stripe)
     }
 
-    // The stripe in a name that has this key.
+    /// The stripe in a name that has this key.
     fn stripe_with<'n>(&self, key: &str, name: &'n str) -> Option<&'n str>
         ensures { MatchOption result ((stripe : List ℕ) → name.now ≢ name_with self.now stripe key.now)
             (λ stripe. name.now ≡ name_with self.now stripe.now key.now) }

@@ -24,7 +24,7 @@ impl Part {
     }
 }
 
-// The first eight bytes of a digest as a number, the first of them the highest.
+/// The first eight bytes of a digest as a number, the first of them the highest.
 fn first_number(digest: &[u8; 32]) -> u64
     ensures { result ≡ from_be_bytes w64 digest.now }
 {

@@ -35,12 +35,12 @@ const PLACE: &str = "{place}";
 
 const SHARD: &str = "{shard}";
 
-// How many times a text goes into a folder.
+/// How many times a text goes into a folder.
 fn slashes(text: &str) -> usize {
     text.chars().filter(|letter| *letter == '/').count()
 }
 
-// Whether a number that is before a text or after it can't have digits of what is beyond the text.
+/// Whether a number that is before a text or after it can't have digits of what is beyond the text.
 fn keeps_apart(naming: Naming, is_stripe_first: bool, between: &[u8]) -> bool
     ensures { result ≡ keeps_apart naming is_stripe_first between.now }
 {

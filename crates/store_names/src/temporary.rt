@@ -6,18 +6,18 @@ ghost use Rattle.store_names.specs.Temporary.{ends_in_digits, is_digit, is_free,
 
 use std::alloc::{AllocError, Global};
 
-// How the name of a file begins that isn't whole yet.
+/// How the name of a file begins that isn't whole yet.
 const UNFINISHED: &str = ".rebuild-store-";
 
-// What follows in the name of the lock of a part, before its number and after it.
+/// What follows in the name of the lock of a part, before its number and after it.
 const PART: &str = "part-";
 
 const OF: &str = "-of-";
 
-// How many digits at random end the name of an unfinished file.
+/// How many digits at random end the name of an unfinished file.
 const RANDOM_DIGITS: usize = 16;
 
-// How many letters of a host's name are kept: as many as Linux lets it have.
+/// How many letters of a host's name are kept: as many as Linux lets it have.
 const MOST_OF_HOST: usize = 64;
 
 fn is_digit(byte: u8) -> bool
@@ -62,8 +62,8 @@ pub fn is_free(path: &str) -> bool
     path.split('/').all(|part| !is_unfinished(part))
 }
 
-// Whether a name has exactly the form of an unfinished file's: `.rebuild-store-`, then `I-N-` if the run worked on part I of N, then
-// `PROCESS@HOST-` if the name says which run that was, then sixteen digits at random.
+/// Whether a name has exactly the form of an unfinished file's: `.rebuild-store-`, then `I-N-` if the run worked on part I of N, then
+/// `PROCESS@HOST-` if the name says which run that was, then sixteen digits at random.
 fn is_of_unfinished(name: &str) -> bool {
     let Some(rest) = name.strip_prefix(UNFINISHED) else {
         return false;
@@ -74,7 +74,7 @@ fn is_of_unfinished(name: &str) -> bool {
     }
 }
 
-// Whether a text is what the name of an unfinished file has before its digits.
+/// Whether a text is what the name of an unfinished file has before its digits.
 fn is_tag(text: &str) -> bool {
     match run_in(text) {
         Some((before, run)) => (before.is_empty() || is_part(before, "-")) && is_run(run),
@@ -82,7 +82,7 @@ fn is_tag(text: &str) -> bool {
     }
 }
 
-// The part and the run that such a text says, if it says a run.
+/// The part and the run that such a text says, if it says a run.
 fn run_in(text: &str) -> Option<(&str, &str)> {
     let (left, _) = text.split_once('@')?;
     match left.rsplit_once('-') {
@@ -145,7 +145,7 @@ pub fn is_left_by(name: &str, tag: &str) -> bool {
         .is_some_and(is_own)
 }
 
-// Whether a text is what follows the tag in the name of an unfinished file.
+/// Whether a text is what follows the tag in the name of an unfinished file.
 fn is_own(text: &str) -> bool {
     match text.rsplit_once('-') {
         Some((run, digits)) => is_random(digits) && is_run(run),
@@ -169,7 +169,7 @@ fn is_lock(name: &str) -> bool {
         .is_some_and(|rest| is_part(rest, OF))
 }
 
-// Whether a text is two numbers, with something between.
+/// Whether a text is two numbers, with something between.
 fn is_part(text: &str, between: &str) -> bool {
     match text.split_once(between) {
         Some((index, of)) => is_number(index) && is_number(of),
@@ -177,7 +177,7 @@ fn is_part(text: &str, between: &str) -> bool {
     }
 }
 
-// Whether a text is a number from 1 on, without zeros before it.
+/// Whether a text is a number from 1 on, without zeros before it.
 fn is_number(text: &str) -> bool {
     !text.is_empty() && !text.starts_with('0') && text.chars().all(|letter| letter.is_ascii_digit())
 }

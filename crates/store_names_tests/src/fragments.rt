@@ -4,7 +4,7 @@ use lrc_code::{Code, Place};
 use std::alloc::Global;
 use store_names::{Layout, Pattern, PatternFault};
 
-// In each line a pattern, a layout, a code, a stripe, a place, and the name.
+/// In each line a pattern, a layout, a code, a stripe, a place, and the name.
 const NAMES: &str = "\
 {stripe}.{place}|plain|6-2-2|a|x0|a.x0
 {stripe}.{place}|plain|12-2-2|a.x1|p0|a.x1.p0
@@ -112,7 +112,7 @@ disk{shard}/{stripe}|plain|6-2-2|.rebuild-store-0123456789abcdeg|x0|disk0/.rebui
 {stripe}.{place}|plain|6-2-2|.rebuild-store-0123456789abcdef|x0|.rebuild-store-0123456789abcdef.x0
 {stripe}.{place}|plain|6-2-2|a.damaged|x0|a.damaged.x0";
 
-// The words of a line of a table.
+/// The words of a line of a table.
 fn words_of(alloc: Global, line: &str) -> Vec<&str> {
     let mut words = Vec::new(alloc);
     for word in line.split('|') {
@@ -135,7 +135,7 @@ fn code_of(word: &str) -> Code {
     Code::parse(word.as_bytes()).unwrap_or(Code::Narrow)
 }
 
-// The name that a pattern gives a fragment; none where it is no pattern, or there is no such place or memory.
+/// The name that a pattern gives a fragment; none where it is no pattern, or there is no such place or memory.
 fn name_by(
     alloc: Global,
     pattern: Result<Pattern, PatternFault>,
@@ -149,7 +149,7 @@ fn name_by(
     }
 }
 
-// Whether a pattern reads a name as that of this fragment.
+/// Whether a pattern reads a name as that of this fragment.
 fn is_read(
     pattern: Result<Pattern, PatternFault>,
     code: Code,
@@ -163,7 +163,7 @@ fn is_read(
     }
 }
 
-// Whether a line of the table of names is so.
+/// Whether a line of the table of names is so.
 fn is_named(alloc: Global, words: &[&str]) -> bool {
     match words {
         [text, layout, code, stripe, place, wanted] => {
@@ -218,7 +218,7 @@ const PATTERNS: &[&str] = &[
     "d7{shard}-1{stripe}",
 ];
 
-// In each line a pattern, a code, and a name that is none of a fragment.
+/// In each line a pattern, a code, and a name that is none of a fragment.
 const NOTHING: &str = "\
 {stripe}.{place}|6-2-2|
 {stripe}.{place}|6-2-2|a
@@ -260,7 +260,7 @@ disk{shard}/{stripe}|12-2-2|disk1 /a
 {place}-{stripe}|6-2-2|x0-
 {place}-{stripe}|6-2-2|-a";
 
-// In each line a pattern, a code, and a stripe that has no fragment at a place, or none below the store's folder.
+/// In each line a pattern, a code, and a stripe that has no fragment at a place, or none below the store's folder.
 const UNNAMED: &str = "\
 {stripe}.{place}|6-2-2||x0
 {stripe}.{place}|6-2-2|a/b|x0
@@ -288,7 +288,7 @@ fn what_is_no_pattern_is_refused(rt: HostRuntime) {
     }
 }
 
-// Whether a name is none of a fragment's, as a line says.
+/// Whether a name is none of a fragment's, as a line says.
 fn is_nothing(words: &[&str]) -> bool {
     match words {
         [text, code, name] => match Pattern::parse(text, Layout::Plain) {
@@ -299,7 +299,7 @@ fn is_nothing(words: &[&str]) -> bool {
     }
 }
 
-// Whether a stripe has no fragment with a name, as a line says.
+/// Whether a stripe has no fragment with a name, as a line says.
 fn is_unnamed(alloc: Global, words: &[&str]) -> bool {
     match words {
         [text, code, stripe, place] => {

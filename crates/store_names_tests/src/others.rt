@@ -9,7 +9,7 @@ use store_names::{
     tag_of_part,
 };
 
-// A name, and whether runs give it.
+/// A name, and whether runs give it.
 const NAMES: &[(&str, bool)] = &[
     (".rebuild-store-0123456789abcdef", true),
     (".rebuild-store-1-2-0123456789abcdef", true),
@@ -51,7 +51,7 @@ const NAMES: &[(&str, bool)] = &[
     (".rebuild-store-part-1-of-2@alpha-0123456789abcdef", false),
 ];
 
-// A name, a tag, and whether a run with the tag may have left it.
+/// A name, a tag, and whether a run with the tag may have left it.
 const LEFT: &[(&str, &str, bool)] = &[
     (".rebuild-store-1-2-0123456789abcdef", "1-2-", true),
     (".rebuild-store-1-2-0123456789abcdef", "1-3-", false),
@@ -86,7 +86,7 @@ const LEFT: &[(&str, &str, bool)] = &[
     ),
 ];
 
-// The name of an unfinished file, and the run that it says.
+/// The name of an unfinished file, and the run that it says.
 const RUNS: &[(&str, Option<&str>)] = &[
     (
         ".rebuild-store-4711@alpha-0123456789abcdef",
@@ -103,7 +103,7 @@ const RUNS: &[(&str, Option<&str>)] = &[
     ("4711@alpha-0123456789abcdef", None),
 ];
 
-// A table of mounts as Linux has it: of two at one place the last is seen, and a field has no space.
+/// A table of mounts as Linux has it: of two at one place the last is seen, and a field has no space.
 const MOUNTS: &str = "22 27 0:21 / /proc rw,relatime - proc proc rw
 27 1 254:0 / / rw,relatime shared:1 - ext4 /dev/vda rw,discard
 28 27 0:30 / /srv rw,relatime shared:2 master:1 - nfs4 one:/srv rw,vers=4.2,local_lock=none,addr=10.0.0.1
@@ -115,7 +115,7 @@ const MOUNTS: &str = "22 27 0:21 / /proc rw,relatime - proc proc rw
 a line of another form
 ";
 
-// A path, and whom locks keep out there.
+/// A path, and whom locks keep out there.
 const LOCKINGS: &[(&str, Locking)] = &[
     ("/", Locking::OneHost),
     ("/home/store", Locking::OneHost),
@@ -134,7 +134,7 @@ const LOCKINGS: &[(&str, Locking)] = &[
     ("store", Locking::Unknown),
 ];
 
-// A path, its folder, its last part, and the folder in the store of a name.
+/// A path, its folder, its last part, and the folder in the store of a name.
 const PATHS: &[(&str, &str, &str, &str)] = &[
     ("a", ".", "a", ""),
     ("a/b", "a", "b", "a"),
@@ -165,7 +165,7 @@ fn runs_are_named(rt: HostRuntime) {
     assert!(rt; is_text(run_named(alloc, "17", "a b/c@d"), "17@a_b_c_d"));
 }
 
-// Whether locks keep these out at a path of the table.
+/// Whether locks keep these out at a path of the table.
 fn is_locking(alloc: Global, path: &str, wanted: Locking) -> bool {
     matches!(locking_at(alloc, MOUNTS, path), Ok(locking) if locking == wanted)
 }
@@ -177,7 +177,7 @@ fn locks_are_those_of_the_mount(rt: HostRuntime) {
     }
 }
 
-// Whether a path has these parts.
+/// Whether a path has these parts.
 fn has_parts(path: &str, folder: &str, last: &str, inside: &str) -> bool {
     folder_of(path) == folder && last_of(path) == last && folder_in(path) == inside
 }
@@ -189,7 +189,7 @@ fn paths_have_their_parts(rt: HostRuntime) {
     }
 }
 
-// Whether a text was made, and is this.
+/// Whether a text was made, and is this.
 fn is_text(made: Result<String, AllocError>, wanted: &str) -> bool {
     matches!(&made, Ok(text) if text.as_str() == wanted)
 }
@@ -202,7 +202,7 @@ fn names_of_parts_are_made(rt: HostRuntime) {
     assert!(rt; is_text(path_in(alloc, "a/b", "c/d"), "a/b/c/d"));
 }
 
-// The last part of a name, and the stripe that it describes.
+/// The last part of a name, and the stripe that it describes.
 const DESCRIBED: &[(&str, &str)] = &[
     ("a.file", "a"),
     ("a.file.copy", "a"),
@@ -222,7 +222,7 @@ const UNDESCRIBED: &[&str] = &[
     "a.copy",
 ];
 
-// A pattern, a code, a stripe, and the names of its descriptions.
+/// A pattern, a code, a stripe, and the names of its descriptions.
 const DESCRIPTIONS: &[(&str, Code, &str, &[&str])] = &[
     (
         "{stripe}.{place}",
@@ -261,7 +261,7 @@ const DESCRIPTIONS: &[(&str, Code, &str, &[&str])] = &[
     ),
 ];
 
-// A pattern, and whether it takes the names of descriptions for those of fragments.
+/// A pattern, and whether it takes the names of descriptions for those of fragments.
 const AMBIGUOUS: &[(&str, bool)] = &[
     ("{stripe}.{place}", false),
     ("disk{shard}/{stripe}", true),
@@ -279,7 +279,7 @@ fn descriptions_have_their_names(rt: HostRuntime) {
     }
 }
 
-// Whether these are the names.
+/// Whether these are the names.
 fn are_names(names: &[String], wanted: &[&str]) -> bool {
     names.len() == wanted.len()
         && names
@@ -288,7 +288,7 @@ fn are_names(names: &[String], wanted: &[&str]) -> bool {
             .all(|(name, other)| name.as_str() == *other)
 }
 
-// Whether the descriptions of a stripe have these names.
+/// Whether the descriptions of a stripe have these names.
 fn are_described(alloc: Global, text: &str, code: Code, stripe: &str, wanted: &[&str]) -> bool {
     match Pattern::parse(text, Layout::Plain) {
         Ok(pattern) => match description_names(alloc, &pattern, code, stripe) {
@@ -299,7 +299,7 @@ fn are_described(alloc: Global, text: &str, code: Code, stripe: &str, wanted: &[
     }
 }
 
-// Whether a pattern takes the names of descriptions for those of fragments, where there is memory to say so.
+/// Whether a pattern takes the names of descriptions for those of fragments, where there is memory to say so.
 fn takes_descriptions(alloc: Global, text: &str) -> Option<bool> {
     match Pattern::parse(text, Layout::Plain) {
         Ok(pattern) => is_ambiguous(alloc, &pattern, Code::Narrow).ok(),
@@ -323,7 +323,7 @@ fn descriptions_are_in_their_folders(rt: HostRuntime) {
     }
 }
 
-// A stripe, a number of parts, and the part that it is of.
+/// A stripe, a number of parts, and the part that it is of.
 const PARTS: &[(&str, u64, u64)] = &[
     ("", 1, 1),
     ("", 2, 1),

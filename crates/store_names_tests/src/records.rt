@@ -3,7 +3,7 @@ use lrc_code::Code;
 use std::alloc::Global;
 use store_records::{Described, LineFault, MOST_BYTES, Sums, digits_of};
 
-// The digests of `a` and `b`.
+/// The digests of `a` and `b`.
 const OF_A: [u8; 32] = [
     0xca, 0x97, 0x81, 0x12, 0xca, 0x1b, 0xbd, 0xca, 0xfa, 0xc2, 0x31, 0xb3, 0x9a, 0x23, 0xdc, 0x4d,
     0xa7, 0x86, 0xef, 0xf8, 0x14, 0x7c, 0x4e, 0x72, 0xb9, 0x80, 0x77, 0x85, 0xaf, 0xee, 0x48, 0xbb,
@@ -16,7 +16,7 @@ const OF_B: [u8; 32] = [
 
 const DIGITS_OF_A: &str = "ca978112ca1bbdcafac231b39a23dc4da786eff8147c4e72b9807785afee48bb";
 
-// A line, and the name of the file of which it has the digest of `a`.
+/// A line, and the name of the file of which it has the digest of `a`.
 const LINES: &[(&[u8], &str)] = &[
     (
         b"ca978112ca1bbdcafac231b39a23dc4da786eff8147c4e72b9807785afee48bb  a.x0",
@@ -107,14 +107,14 @@ const NO_SUMS: &[&[u8]] = &[
     b"\\\\ca978112ca1bbdcafac231b39a23dc4da786eff8147c4e72b9807785afee48bb  a",
 ];
 
-// The sums of one line.
+/// The sums of one line.
 fn read(alloc: Global, line: &[u8]) -> Result<Sums, LineFault> {
     let mut sums = Sums::new(alloc);
     sums.read_line(alloc, line, 7)?;
     Ok(sums)
 }
 
-// Whether a line says the digest of `a` for a file.
+/// Whether a line says the digest of `a` for a file.
 fn says_sum(alloc: Global, line: &[u8], name: &str) -> bool {
     match read(alloc, line) {
         Ok(sums) => sums.digest_of(name) == Some(&OF_A),
@@ -122,7 +122,7 @@ fn says_sum(alloc: Global, line: &[u8], name: &str) -> bool {
     }
 }
 
-// Whether a line is read and says no sum.
+/// Whether a line is read and says no sum.
 fn says_nothing(alloc: Global, line: &[u8]) -> bool {
     match read(alloc, line) {
         Ok(sums) => matches!(sums.text(alloc), Ok(text) if text.is_empty()),
@@ -149,7 +149,7 @@ fn lines_say_sums(rt: HostRuntime) {
     assert!(rt; matches!(&digits, Ok(digits) if digits.as_str() == DIGITS_OF_A));
 }
 
-// Names, and the digest of each: of `a`, or else of `b`.
+/// Names, and the digest of each: of `a`, or else of `b`.
 const NAMES: &[(&str, bool)] = &[
     ("a.x0", true),
     ("a\\b", false),
@@ -158,7 +158,7 @@ const NAMES: &[(&str, bool)] = &[
     ("disk1/a b", true),
 ];
 
-// The lines of their sums, and what is after the last line feed.
+/// The lines of their sums, and what is after the last line feed.
 const TEXT: &[&[u8]] = &[
     b"ca978112ca1bbdcafac231b39a23dc4da786eff8147c4e72b9807785afee48bb  a.x0",
     b"\\3e23e8160039594a33894f6564e1b1348bbd7a0088d42c4acb73eeaed59c009d  a\\\\b",
@@ -168,7 +168,7 @@ const TEXT: &[&[u8]] = &[
     b"",
 ];
 
-// The text of the sums of all names, whose lines then are read once more.
+/// The text of the sums of all names, whose lines then are read once more.
 fn written(alloc: Global) -> Result<Vec<u8>, LineFault> {
     let mut sums = Sums::new(alloc);
     for (name, is_a) in NAMES {
@@ -209,7 +209,7 @@ fn another_digest_of_a_file_is_refused(rt: HostRuntime) {
     assert!(rt; is_set && matches!(fault, Some(LineFault::Contradicts { line: 2 })));
 }
 
-// The line of a description, its length, whether its digest is that of `a` or else of `b`, and its code.
+/// The line of a description, its length, whether its digest is that of `a` or else of `b`, and its code.
 const DESCRIPTIONS: &[(&[u8], u64, bool, Code)] = &[
     (
         b"0 ca978112ca1bbdcafac231b39a23dc4da786eff8147c4e72b9807785afee48bb 6-2-2\n",
@@ -262,13 +262,13 @@ const NO_DESCRIPTIONS: &[&[u8]] = &[
     b"4096 ca978112ca1bbdcafac231b39a23dc4da786eff8147c4e72b9807785afee48bb 6-2-2\n\0",
 ];
 
-// Whether a description's line is this.
+/// Whether a description's line is this.
 fn is_written(alloc: Global, described: &Described, line: &[u8]) -> bool {
     line.len() as u64 <= MOST_BYTES
         && matches!(described.text(alloc), Ok(text) if text.as_bytes() == line)
 }
 
-// Whether a line is read as this description.
+/// Whether a line is read as this description.
 fn is_parsed(alloc: Global, described: &Described, line: &[u8]) -> bool {
     matches!(Described::parse(alloc, line), Ok(Some(parsed)) if parsed == *described)
 }

@@ -26,7 +26,7 @@ pub(crate) fn expected(
     Ok(sums)
 }
 
-// Says that digests which were given are of no file of the store.
+/// Says that digests which were given are of no file of the store.
 fn say_strange_sums(rt: &HostRuntime, opening: &Opening<'_>, expected: u64) {
     if let (Some(path), 0) = (opening.sums, expected) {
         let _ = say(
@@ -36,7 +36,7 @@ fn say_strange_sums(rt: &HostRuntime, opening: &Opening<'_>, expected: u64) {
     }
 }
 
-// Adds the stripes that a file names, one on each line.
+/// Adds the stripes that a file names, one on each line.
 fn expect_stripes(rt: &HostRuntime, listing: &mut Listing, path: &str) -> Result<(), StoreFault> {
     match read_names(rt, listing, path) {
         Ok(()) => Ok(()),
@@ -56,7 +56,7 @@ fn read_names(rt: &HostRuntime, listing: &mut Listing, path: &str) -> io::Result
     Ok(())
 }
 
-// The checksums that the opening name, or those in the store.
+/// The checksums that the opening name, or those in the store.
 fn sums_of(rt: &HostRuntime, opening: &Opening<'_>) -> Result<Option<Sums>, StoreFault> {
     let alloc = rt.alloc();
     let (path, links) = match opening.sums {

@@ -13,7 +13,7 @@ use store_repair::{
 /// As many bytes of each fragment are looked at.
 const LOOKED_AT: usize = 65_536;
 
-// What the fragments of a stripe say of the code.
+/// What the fragments of a stripe say of the code.
 #[derive(Clone, Copy)]
 enum Fit {
     /// They belong together, or all but one do.
@@ -50,7 +50,7 @@ pub fn refuse_other_stores(
     }))
 }
 
-// What the fragments of a stripe say of the store's code.
+/// What the fragments of a stripe say of the store's code.
 fn fit_of(
     alloc: Global,
     code: Code,
@@ -68,7 +68,7 @@ fn fit_of(
     fit_of_opened(alloc, code, &opened)
 }
 
-// What the beginnings of fragments say of their code.
+/// What the beginnings of fragments say of their code.
 fn fit_of_opened(
     alloc: Global,
     code: Code,
@@ -93,7 +93,7 @@ fn fit_of_opened(
     }
 }
 
-// A stripe that can't be read says nothing of the code.
+/// A stripe that can't be read says nothing of the code.
 fn unknown(fault: MendFault) -> Result<Fit, AllocError> {
     match fault {
         MendFault::OutOfMemory => Err(AllocError),

@@ -32,7 +32,7 @@ pub fn remove_leftovers(
     Ok(are_removed)
 }
 
-// Removes a file, and says so. Says whether it could be removed, or is to stay.
+/// Removes a file, and says so. Says whether it could be removed, or is to stay.
 fn remove(rt: &HostRuntime, locks: &Locks, path: &str, is_known_dead: bool) -> io::Result<bool> {
     if locks.is_worked_on(rt, path) {
         return Ok(true);

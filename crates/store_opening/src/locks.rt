@@ -7,14 +7,14 @@ use store_faults::{StoreFault, device_fault};
 use store_folder::{Links, Part, is_named, lock_name, open_as, path_in};
 use store_names::Locking;
 
-// How often the file of a part's lock is opened anew where another run has removed it meanwhile.
+/// How often the file of a part's lock is opened anew where another run has removed it meanwhile.
 const MOST_OPENINGS: usize = 100;
 
 /// The locks of a run that writes: it holds them for as long as their files are open.
 #[derive(Drop)]
 pub struct Locks {
     files: Vec<File>,
-    // The path of the lock of a part, whose file is the last.
+    /// The path of the lock of a part, whose file is the last.
     part: Option<String>,
     sharing: Sharing,
 }
@@ -54,7 +54,7 @@ impl Locks {
         Ok(locks)
     }
 
-    // Adds the lock of a part of a folder.
+    /// Adds the lock of a part of a folder.
     fn add_part(&mut self, rt: &HostRuntime, folder: &str, part: Part) -> Result<(), StoreFault> {
         let name = lock_name(rt.alloc(), part.index, part.of)?;
         let path = path_in(rt.alloc(), folder, name.as_str())?;
@@ -112,7 +112,7 @@ impl Locks {
     }
 }
 
-// Keeps other runs that write out of a folder until the file is closed.
+/// Keeps other runs that write out of a folder until the file is closed.
 fn lock_folder(rt: &HostRuntime, folder: &str) -> Result<File, StoreFault> {
     let name = String::from_str(rt.alloc(), folder)?;
     match open_folder(rt, folder) {
@@ -124,7 +124,7 @@ fn lock_folder(rt: &HostRuntime, folder: &str) -> Result<File, StoreFault> {
     }
 }
 
-// Keeps runs that write to all of a folder out of it, and none that write to a part.
+/// Keeps runs that write to all of a folder out of it, and none that write to a part.
 fn share_folder(rt: &HostRuntime, folder: &str) -> Result<File, StoreFault> {
     let name = String::from_str(rt.alloc(), folder)?;
     match open_folder(rt, folder) {
@@ -136,7 +136,7 @@ fn share_folder(rt: &HostRuntime, folder: &str) -> Result<File, StoreFault> {
     }
 }
 
-// Refuses a store because of the lock of another part, if a run has it, or may have it.
+/// Refuses a store because of the lock of another part, if a run has it, or may have it.
 fn refuse_held(rt: &HostRuntime, sharing: &Sharing, path: &str) -> Result<(), StoreFault> {
     if is_locked(rt, path) {
         return Err(StoreFault::InUse {
@@ -146,7 +146,7 @@ fn refuse_held(rt: &HostRuntime, sharing: &Sharing, path: &str) -> Result<(), St
     refuse_other(rt, sharing, path)
 }
 
-// Refuses a store because of the file of a lock that a run has left which may still work.
+/// Refuses a store because of the file of a lock that a run has left which may still work.
 fn refuse_other(rt: &HostRuntime, sharing: &Sharing, path: &str) -> Result<(), StoreFault> {
     match sharing.other_at(rt, path)? {
         Some(OtherRun { words }) => Err(StoreFault::MayBeInUse {
@@ -157,13 +157,13 @@ fn refuse_other(rt: &HostRuntime, sharing: &Sharing, path: &str) -> Result<(), S
     }
 }
 
-// Into how many parts the run divides a store that has the lock at a path.
+/// Into how many parts the run divides a store that has the lock at a path.
 fn parts_of(path: &str) -> Option<u64> {
     let (_, count) = path.rsplit_once("-of-")?;
     count.parse::<u64>().ok()
 }
 
-// Whether a run holds a lock. By NFS a file is locked only if it is open for writing.
+/// Whether a run holds a lock. By NFS a file is locked only if it is open for writing.
 fn is_locked(rt: &HostRuntime, path: &str) -> bool {
     let mut options = File::options();
     options.write(true);
@@ -173,7 +173,7 @@ fn is_locked(rt: &HostRuntime, path: &str) -> bool {
     }
 }
 
-// Opens a folder. Opening a FIFO would wait for a writer.
+/// Opens a folder. Opening a FIFO would wait for a writer.
 fn open_folder(rt: &HostRuntime, folder: &str) -> io::Result<File> {
     if !fs::metadata(rt, folder)?.is_dir() {
         return Err(io::Error::from(ErrorKind::NotADirectory));
@@ -181,8 +181,8 @@ fn open_folder(rt: &HostRuntime, folder: &str) -> io::Result<File> {
     fs::open(rt, folder)
 }
 
-// Keeps other runs out of a part. A file that another run has removed since it was opened keeps nobody out, so that the file that has the
-// name is locked.
+/// Keeps other runs out of a part. A file that another run has removed since it was opened keeps nobody out, so that the file that has the
+/// name is locked.
 fn lock_part(rt: &HostRuntime, sharing: &Sharing, path: &str) -> Result<File, StoreFault> {
     let alloc = rt.alloc();
     for _opening in 0..MOST_OPENINGS {
@@ -205,8 +205,8 @@ fn lock_part(rt: &HostRuntime, sharing: &Sharing, path: &str) -> Result<File, St
     })
 }
 
-// The file of a lock, in which this run is written if nothing is known of locks there; it is refused if a run may have it that was there
-// before.
+/// The file of a lock, in which this run is written if nothing is known of locks there; it is refused if a run may have it that was there
+/// before.
 fn owned(
     rt: &HostRuntime,
     sharing: &Sharing,
@@ -232,21 +232,21 @@ fn owned(
     }
 }
 
-// Writes a run into the file of its lock, in place of what is there.
+/// Writes a run into the file of its lock, in place of what is there.
 fn write_run(alloc: Global, file: &mut File, run: &str) -> io::Result<()> {
     let line = format!(in alloc; "{run}\n")?;
     file.set_len(0)?;
     file.write_all(line.as_bytes())
 }
 
-// The file of a lock that is open, and whether this run has made it.
+/// The file of a lock that is open, and whether this run has made it.
 #[derive(Drop)]
 struct LockFile {
     file: File,
     is_new: bool,
 }
 
-// Makes the file of a lock, or opens the regular file that is there.
+/// Makes the file of a lock, or opens the regular file that is there.
 fn open_lock(rt: &HostRuntime, path: &str) -> io::Result<LockFile> {
     let mut options = File::options();
     options.write(true);
@@ -265,7 +265,7 @@ fn open_lock(rt: &HostRuntime, path: &str) -> io::Result<LockFile> {
     }
 }
 
-// A file that is locked.
+/// A file that is locked.
 fn locked(file: File, lock: Result<(), TryLockError>, folder: String) -> Result<File, StoreFault> {
     match lock {
         Ok(()) => Ok(file),

@@ -5,22 +5,22 @@ use std::io::ErrorKind;
 use store_faults::{StoreFault, device_fault};
 use store_names::{Locking, is_run, last_of, locking_at, run_named, run_of};
 
-// This process, as a link that is its number, and the name of this host.
+/// This process, as a link that is its number, and the name of this host.
 const PROCESS: &str = "/proc/self";
 
 const HOST: &str = "/proc/sys/kernel/hostname";
 
 const MOUNTS: &str = "/proc/self/mountinfo";
 
-// No text that a run writes into the file of its lock is longer.
+/// No text that a run writes into the file of its lock is longer.
 const MOST_OF_LOCK: u64 = 200;
 
 /// A run that writes, and the mounts that it sees.
 #[derive(Drop)]
 pub(crate) struct Sharing {
-    // As the names of its files say it; empty if the system doesn't say it.
+    /// As the names of its files say it; empty if the system doesn't say it.
     run: String,
-    // The kernel's table; empty if there is none.
+    /// The kernel's table; empty if there is none.
     mounts: String,
 }
 
@@ -90,7 +90,7 @@ impl Sharing {
         }
     }
 
-    // The run that the file at a path names as its own.
+    /// The run that the file at a path names as its own.
     fn other_in(&self, rt: &HostRuntime, path: &str) -> Result<Option<OtherRun>, AllocError> {
         let is_short = fs::symlink_metadata(rt, path).is_ok_and(|there| there.is_file()
             && there.len() <= MOST_OF_LOCK);
@@ -101,7 +101,7 @@ impl Sharing {
         self.other_of(rt, "")
     }
 
-    // A run, unless it is one of this host that has ended.
+    /// A run, unless it is one of this host that has ended.
     fn other_of(&self, rt: &HostRuntime, run: &str) -> Result<Option<OtherRun>, AllocError> {
         let alloc = rt.alloc();
         let (Some((process, host)), true) = (run.split_once('@'), is_run(run)) else {
@@ -117,7 +117,7 @@ impl Sharing {
     }
 }
 
-// Whether this host has no process with this number.
+/// Whether this host has no process with this number.
 fn has_ended(rt: &HostRuntime, process: &str) -> Result<bool, AllocError> {
     let path = format!(in rt.alloc(); "/proc/{process}")?;
     Ok(match fs::symlink_metadata(rt, path.as_str()) {
@@ -126,7 +126,7 @@ fn has_ended(rt: &HostRuntime, process: &str) -> Result<bool, AllocError> {
     })
 }
 
-// The kernel's table of mounts; empty if there is none.
+/// The kernel's table of mounts; empty if there is none.
 fn mounts_of(rt: &HostRuntime) -> Result<String, StoreFault> {
     let alloc = rt.alloc();
     match fs::read_to_string(rt, MOUNTS) {
@@ -136,7 +136,7 @@ fn mounts_of(rt: &HostRuntime) -> Result<String, StoreFault> {
     }
 }
 
-// The text of a file; empty if it can't be read.
+/// The text of a file; empty if it can't be read.
 fn text_of(rt: &HostRuntime, path: &str) -> Result<String, AllocError> {
     match fs::read_to_string(rt, path) {
         Ok(text) => Ok(text),

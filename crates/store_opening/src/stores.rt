@@ -8,12 +8,15 @@ use crate::unmounted::{leave_alone, left_alone};
 use lrc_code::Code;
 use std::alloc::AllocError;
 use std::mem;
-use store_faults::StoreFault;
+use store_faults::{COUNTER_PREFIX, REPORT_HEADER, ROW_BEGIN, StoreFault};
 use store_folder::{
     DESCRIPTION, Listing, Site, StoreStripes, StripeNames, Sums, Wanted, Watched, followed,
     is_ambiguous,
 };
 use store_repair::Stripe;
+
+/// How what runs write to such paths begins.
+const WRITTEN: [&str; 3] = [REPORT_HEADER, ROW_BEGIN, COUNTER_PREFIX];
 
 /// A store that is open.
 #[derive(Drop)]
@@ -54,7 +57,7 @@ pub fn open_store(rt: &HostRuntime, opening: &Opening<'_>) -> Result<OpenStore, 
     }
 }
 
-// A store that is open, but for its locks.
+/// A store that is open, but for its locks.
 #[derive(Drop)]
 struct Unlocked {
     folder: String,
@@ -93,8 +96,8 @@ impl Unlocked {
     }
 }
 
-// Opens a store whose locks are taken. What the path of a report or of counters leads to is looked out for: it may be the name of a
-// fragment that is lost.
+/// Opens a store whose locks are taken. What the path of a report or of counters leads to is looked out for: it may be the name of a
+/// fragment that is lost.
 fn open_locked(
     rt: &HostRuntime,
     opening: &Opening<'_>,
@@ -109,14 +112,14 @@ fn open_locked(
     }
     let mut watched = Vec::new(alloc);
     for (given, end) in &ends {
-        if let Some(path) = Watched::at(rt, given.as_str(), end.as_str()) {
+        if let Some(path) = Watched::at(rt, given.as_str(), end.as_str(), &WRITTEN) {
             watched.push(path)?;
         }
     }
     open_watched(rt, opening, locks, watched.as_slice())
 }
 
-// The path that a path's links lead to, or itself if they lead nowhere.
+/// The path that a path's links lead to, or itself if they lead nowhere.
 fn end_of_links(rt: &HostRuntime, path: &str) -> Result<String, AllocError> {
     match followed(rt, String::from_str(rt.alloc(), path)?) {
         Ok(end) => Ok(end),
@@ -124,7 +127,7 @@ fn end_of_links(rt: &HostRuntime, path: &str) -> Result<String, AllocError> {
     }
 }
 
-// Opens a store, and looks out for paths that may be some of its own.
+/// Opens a store, and looks out for paths that may be some of its own.
 fn open_watched(
     rt: &HostRuntime,
     opening: &Opening<'_>,
@@ -175,7 +178,7 @@ fn open_watched(
     })
 }
 
-// What runs have left in the folder that rebuilt fragments are written to, if that isn't the store's.
+/// What runs have left in the folder that rebuilt fragments are written to, if that isn't the store's.
 fn listed_target(
     rt: &HostRuntime,
     opening: &Opening<'_>,
@@ -191,7 +194,7 @@ fn listed_target(
     Ok(Some(listed(rt, to, &left)?))
 }
 
-// The stripes of a store that was listed; it is refused where there are none.
+/// The stripes of a store that was listed; it is refused where there are none.
 fn stripes_of(
     rt: &HostRuntime,
     opening: &Opening<'_>,

@@ -8,8 +8,8 @@ use store_faults::{NO_MEDIUM, StoreFault, say};
 use store_folder::{Found, Links, Pattern, StoreStripes, look_at, path_in};
 use store_names::{disk_folders, folder_in};
 
-// The folders of a pattern's disks that are on the device of the store's own folder, if more of them are on others: no disk is mounted at
-// these, and what is written there would be on another one.
+/// The folders of a pattern's disks that are on the device of the store's own folder, if more of them are on others: no disk is mounted at
+/// these, and what is written there would be on another one.
 fn unmounted_folders(
     rt: &HostRuntime,
     folder: &str,

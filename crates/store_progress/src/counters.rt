@@ -2,9 +2,7 @@
 use crate::progress::Progress;
 use std::alloc::{AllocError, Global};
 use std::time::{SystemTime, UNIX_EPOCH};
-
-// What the names of all counters begin with.
-const PREFIX: &str = "rebuild_store";
+use store_faults::COUNTER_PREFIX;
 
 impl Progress {
     /// The counters of a task over a store, one on each line: how much there is to do and how much is done, in units and in bytes, what was
@@ -32,7 +30,7 @@ impl Progress {
     }
 }
 
-// The seconds since 1970; 0 if the clock can't be read.
+/// The seconds since 1970; 0 if the clock can't be read.
 fn time_of(rt: &HostRuntime) -> u64 {
     match SystemTime::now(rt) {
         Ok(now) => now
@@ -42,7 +40,7 @@ fn time_of(rt: &HostRuntime) -> u64 {
     }
 }
 
-// Adds the line of a counter.
+/// Adds the line of a counter.
 fn add(
     alloc: Global,
     text: &mut String,
@@ -50,17 +48,17 @@ fn add(
     labels: &str,
     value: u64,
 ) -> Result<(), AllocError> {
-    let line = format!(in alloc; "{PREFIX}_{name}{labels} {value}\n")?;
+    let line = format!(in alloc; "{COUNTER_PREFIX}{name}{labels} {value}\n")?;
     text.push_str(line.as_str())
 }
 
-// The labels that say which command over which store is counted.
+/// The labels that say which command over which store is counted.
 fn labels_of(alloc: Global, command: &str, store: &str) -> Result<String, AllocError> {
     let store = escaped_label(alloc, store)?;
     format!(in alloc; "{{command=\"{command}\",store=\"{store}\"}}")
 }
 
-// A text as it stands between the quotes of a label: a backslash before a quote and a backslash, and n for a line feed.
+/// A text as it stands between the quotes of a label: a backslash before a quote and a backslash, and n for a line feed.
 fn escaped_label(alloc: Global, text: &str) -> Result<String, AllocError> {
     let mut escaped = String::new(alloc);
     for letter in text.chars() {

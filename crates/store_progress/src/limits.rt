@@ -4,10 +4,10 @@ use std::fs;
 use std::io::{self, ErrorKind};
 use store_faults::FileFault;
 
-// What the system says of the limits of a process.
+/// What the system says of the limits of a process.
 const LIMITS: &str = "/proc/self/limits";
 
-// Where the system shows what standard output is.
+/// Where the system shows what standard output is.
 const OUTPUT: &str = "/proc/self/fd/1";
 
 /// The most bytes that a file may get which this process writes; none if there is no limit, or the system doesn't say one.
@@ -52,7 +52,7 @@ pub fn too_long() -> io::Error {
     )
 }
 
-// That a file would be longer than this process may write, in numbers.
+/// That a file would be longer than this process may write, in numbers.
 fn over_limit(
     rt: &HostRuntime,
     path: &str,

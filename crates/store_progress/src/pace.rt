@@ -10,9 +10,9 @@ const MICROSECONDS: u64 = 1_000_000;
 #[derive(Drop)]
 pub(crate) struct Pace {
     start: Instant,
-    // The bytes that may be read in a second.
+    /// The bytes that may be read in a second.
     rate: u64,
-    // When the next bytes may be read, in microseconds since the start.
+    /// When the next bytes may be read, in microseconds since the start.
     next: AtomicU64,
 }
 

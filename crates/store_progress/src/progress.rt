@@ -12,8 +12,8 @@ const BETWEEN: u64 = 200;
 
 const MIB: u64 = 1_048_576;
 
-// The line is written anew in its place, isn't folded where the terminal is narrower, and ends, so that what is written after a run that
-// was killed begins below it.
+/// The line is written anew in its place, isn't folded where the terminal is narrower, and ends, so that what is written after a run that
+/// was killed begins below it.
 const BEGIN: &str = "\r\x1b[K\x1b[?7l";
 
 const END: &str = "\x1b[?7h\n";
@@ -41,7 +41,7 @@ impl Operation {
         }
     }
 
-    // What it counts.
+    /// What it counts.
     fn unit(self) -> &'static str {
         match self {
             Operation::Repair => "fragments",
@@ -50,7 +50,7 @@ impl Operation {
         }
     }
 
-    // What findings of no damage are; none if it finds nothing.
+    /// What findings of no damage are; none if it finds nothing.
     fn others(self) -> Option<&'static str> {
         match self {
             Operation::Repair => Some("given up"),
@@ -74,20 +74,20 @@ pub struct Task {
 /// What is to be done, what of it is done, and since when. Nothing is shown where standard error is no terminal.
 #[derive(Drop)]
 pub struct Progress {
-    // Since when it is counted; none if nobody sees it.
+    /// Since when it is counted; none if nobody sees it.
     start: Option<Instant>,
     is_seen: bool,
     pace: Option<Pace>,
     task: Task,
     done: AtomicU64,
     done_bytes: AtomicU64,
-    // How many bytes were gone over of units that aren't done.
+    /// How many bytes were gone over of units that aren't done.
     passed: AtomicU64,
     damaged: AtomicU64,
     others: AtomicU64,
-    // When the line is shown.
+    /// When the line is shown.
     turns: Turns,
-    // 1 while the line is there.
+    /// 1 while the line is there.
     lines: AtomicU64,
 }
 
@@ -211,7 +211,7 @@ impl Progress {
         self.show_in_time(rt);
     }
 
-    // Shows the line if somebody sees it and it was shown long enough ago.
+    /// Shows the line if somebody sees it and it was shown long enough ago.
     fn show_in_time(&self, rt: &HostRuntime) {
         if !self.is_seen {
             return;
@@ -223,14 +223,14 @@ impl Progress {
         }
     }
 
-    // How many bytes are done, also of units that aren't.
+    /// How many bytes are done, also of units that aren't.
     fn bytes_done(&self) -> u64 {
         let passed = self.passed.load(Ordering::SeqCst) / self.task.passes.max(1);
         let done = self.done_bytes.load(Ordering::SeqCst);
         done.saturating_add(passed).min(self.task.bytes)
     }
 
-    // Shows the line, so many milliseconds after the start, in place of an earlier one.
+    /// Shows the line, so many milliseconds after the start, in place of an earlier one.
     fn show(&self, rt: &HostRuntime, now: u64) -> io::Result<()> {
         let Task {
             operation,
@@ -265,7 +265,7 @@ impl Progress {
         eprint!(rt; "{line}")
     }
 
-    // What is said of findings.
+    /// What is said of findings.
     fn found(&self, alloc: Global) -> Result<String, AllocError> {
         let Some(others) = self.task.operation.others() else {
             return Ok(String::new(alloc));
@@ -283,7 +283,7 @@ impl Progress {
     }
 }
 
-// Bytes as MiB and tenths of one.
+/// Bytes as MiB and tenths of one.
 fn tenths_of(bytes: u64) -> (u64, u64) {
     let tenths = bytes / (MIB / 10);
     (tenths / 10, tenths % 10)

@@ -11,7 +11,7 @@ use std::sync::atomic::{AtomicU64, Ordering};
 pub struct CountedReads {
     rt: HostRuntime,
     progress: Arc<Progress, Global>,
-    // How many bytes of the unit are counted at most, and how many were read.
+    /// How many bytes of the unit are counted at most, and how many were read.
     most: AtomicU64,
     read: AtomicU64,
 }
@@ -37,7 +37,7 @@ impl CountedReads {
         self.read.store(0, Ordering::SeqCst);
     }
 
-    // Counts bytes that were read, and keeps to the limit on them.
+    /// Counts bytes that were read, and keeps to the limit on them.
     fn advance(&self, bytes: u64) {
         self.progress.keep_pace(&self.rt, bytes);
         if !self.progress.is_counted() {

@@ -4,9 +4,9 @@ use std::sync::atomic::{AtomicU64, Ordering};
 /// Turns, of which one comes when the last one was long enough ago.
 #[derive(Drop)]
 pub struct Turns {
-    // When the last was taken, in milliseconds since a start.
+    /// When the last was taken, in milliseconds since a start.
     last: AtomicU64,
-    // The least time between two, in milliseconds.
+    /// The least time between two, in milliseconds.
     between: u64,
 }
 

@@ -69,18 +69,18 @@ pub fn tend_descriptions(
     Ok(done)
 }
 
-// What is done with the copies of a stripe's description.
+/// What is done with the copies of a stripe's description.
 #[derive(Drop)]
 struct Tended<'a> {
     site: &'a Site<'a>,
     work: CopyWork,
     believed: Option<Described>,
-    // What is said of a copy that is there.
+    /// What is said of a copy that is there.
     like: Option<Metadata>,
 }
 
 impl Tended<'_> {
-    // Notes what becomes of a copy that isn't as it should be.
+    /// Notes what becomes of a copy that isn't as it should be.
     fn tend(
         &self,
         rt: &HostRuntime,
@@ -112,7 +112,7 @@ impl Tended<'_> {
         Ok(())
     }
 
-    // Whether a copy is left that would be replaced if that were asked for.
+    /// Whether a copy is left that would be replaced if that were asked for.
     fn would_replace(&self, reason: &CopyReason, may_replace: bool) -> bool {
         let is_replaced = match self.work {
             CopyWork::Name => false,
@@ -121,7 +121,7 @@ impl Tended<'_> {
         may_replace && !is_replaced && self.believed.is_some() && !reason.is_of_device()
     }
 
-    // Makes the copy of a name that isn't as it should be, if it is to be made, and says why it still isn't so.
+    /// Makes the copy of a name that isn't as it should be, if it is to be made, and says why it still isn't so.
     fn left(
         &self,
         rt: &HostRuntime,
@@ -148,7 +148,7 @@ impl Tended<'_> {
     }
 }
 
-// Makes a copy, and says why it couldn't be made.
+/// Makes a copy, and says why it couldn't be made.
 fn made(
     rt: &HostRuntime,
     site: &Site<'_>,
@@ -165,7 +165,7 @@ fn made(
     }
 }
 
-// Makes a copy, with the owner and the rights of another one.
+/// Makes a copy, with the owner and the rights of another one.
 fn make(
     rt: &HostRuntime,
     site: &Site<'_>,
@@ -201,7 +201,7 @@ fn fill(file: &mut NewFile, text: &[u8], like: Option<&Metadata>) -> io::Result<
     Ok(())
 }
 
-// Gives a file the name of another one, which is kept.
+/// Gives a file the name of another one, which is kept.
 fn replace(rt: &HostRuntime, file: NewFile, path: &str) -> io::Result<Placed> {
     let mut kept = String::from_str(rt.alloc(), path)?;
     kept.push_str(KEPT)?;

@@ -14,7 +14,7 @@ use output::write_out;
 use store_faults::FileFault;
 use store_files::{Sought, StoredFile, descriptions_of, first_described, is_begun, staged_name};
 
-// What is done with a file that is read.
+/// What is done with a file that is read.
 #[derive(Clone, Copy)]
 enum ReadTo<'a> {
     Nothing,
@@ -49,7 +49,7 @@ pub fn verify_file(rt: &HostRuntime, file: &StoredFile<'_, '_>) -> Result<(), Fi
     read_fitting(rt, file, ReadTo::Nothing)
 }
 
-// Finds fragments that give a file, and writes it to an output, if there is to be one.
+/// Finds fragments that give a file, and writes it to an output, if there is to be one.
 fn read_fitting(
     rt: &HostRuntime,
     file: &StoredFile<'_, '_>,
@@ -74,7 +74,7 @@ fn read_fitting(
     Err(FileFault::Refused { what })
 }
 
-// Writes the file to standard output if the fragments give it, which is known before its first byte is written. Says whether they do.
+/// Writes the file to standard output if the fragments give it, which is known before its first byte is written. Says whether they do.
 fn print_fitting(
     rt: &HostRuntime,
     sought: &Sought<'_, '_>,

@@ -52,14 +52,14 @@ impl Described {
     }
 }
 
-// The decimal digits of a number.
+/// The decimal digits of a number.
 fn decimal_of(alloc: Global, number: u64) -> Result<String, AllocError>
     ensures { IfOk result (λ digits. string_bytes digits ≡ decimal number) }
 {
     format!(in alloc; "{number}")
 }
 
-// What the parts of a line say.
+/// What the parts of a line say.
 fn described_by(text: &[u8]) -> Option<Described> {
     let text = str::from_utf8(text).ok()?;
     let (length, rest) = text.split_once(' ')?;

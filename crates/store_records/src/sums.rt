@@ -11,7 +11,7 @@ use std::collections::BTreeMap;
 use std::str;
 use thiserror::Error;
 
-// How many bytes are before a name: 64 digits, and two spaces or a space and a star.
+/// How many bytes are before a name: 64 digits, and two spaces or a space and a star.
 const BEFORE_NAME: usize = 66;
 
 /// The digests of files, by their names. A name is without the `./` that may be before it in a file.
@@ -45,7 +45,7 @@ impl<T: Drop> From<AllocFailed<T>> for LineFault {
     }
 }
 
-// What a line says.
+/// What a line says.
 #[derive(Drop)]
 struct Sum {
     name: Vec<u8>,
@@ -129,7 +129,7 @@ impl Sums {
     }
 }
 
-// What a line says, if it has the form.
+/// What a line says, if it has the form.
 fn sum_of(alloc: Global, line: &[u8]) -> Result<Option<Sum>, AllocError> {
     let (escapes, line) = match line.strip_prefix(b"\\".as_slice()) {
         Some(rest) => (true, rest),
@@ -155,8 +155,8 @@ fn sum_of(alloc: Global, line: &[u8]) -> Result<Option<Sum>, AllocError> {
     Ok(name.map(|name| Sum { name, digest }))
 }
 
-// A name whose backslashes, line feeds and carriage returns are written as `\\`, `\n` and `\r`; none where something else is after a
-// backslash.
+/// A name whose backslashes, line feeds and carriage returns are written as `\\`, `\n` and `\r`; none where something else is after a
+/// backslash.
 fn unescaped(alloc: Global, text: &[u8]) -> Result<Option<Vec<u8>>, AllocError> {
     let mut name = Vec::new(alloc);
     let mut is_after_backslash = false;
@@ -178,7 +178,7 @@ fn unescaped(alloc: Global, text: &[u8]) -> Result<Option<Vec<u8>>, AllocError> 
     Ok((!is_after_backslash).then_some(name))
 }
 
-// Appends the line of a file.
+/// Appends the line of a file.
 fn append_line(
     alloc: Global,
     name: &[u8],

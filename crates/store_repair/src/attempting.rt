@@ -57,7 +57,7 @@ pub(crate) fn make_from_fewest<S: Store>(
     }
 }
 
-// Whether what was made may get its names: where damage is looked for, damage of what was read shows, and what was made has its digests.
+/// Whether what was made may get its names: where damage is looked for, damage of what was read shows, and what was made has its digests.
 fn is_as_asked<S: Store>(
     store: &S,
     repair: &Repair,
@@ -76,7 +76,7 @@ fn is_as_asked<S: Store>(
     Ok(are && is_shown(repair.code, made.set, listed, places))
 }
 
-// Whether new files at places of a stripe have the digests that the store knows of them.
+/// Whether new files at places of a stripe have the digests that the store knows of them.
 fn are_as_listed<S: Store>(
     store: &S,
     stripe: &Stripe<'_>,
@@ -91,7 +91,7 @@ fn are_as_listed<S: Store>(
     Ok(true)
 }
 
-// Keeps what is said of survivors that were changed while they were read, where damage is looked for.
+/// Keeps what is said of survivors that were changed while they were read, where damage is looked for.
 fn keep_changes(
     repair: &Repair,
     noted: Vec<Finding>,

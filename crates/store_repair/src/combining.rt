@@ -38,7 +38,7 @@ pub(crate) fn append_combined<F: Fragment, N: NewFragment>(
     Ok(())
 }
 
-// Appends to each file its combination of a window.
+/// Appends to each file its combination of a window.
 fn append_window<F: Fragment, N: NewFragment>(
     fragments: &[Option<F>],
     window: Window,

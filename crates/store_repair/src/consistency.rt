@@ -10,7 +10,7 @@ use crate::store::{Fragment, NewFragment};
 use std::alloc::Global;
 use std::io;
 
-// No file: a check of survivors writes nothing.
+/// No file: a check of survivors writes nothing.
 #[derive(Drop)]
 struct NoFile;
 

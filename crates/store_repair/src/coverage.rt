@@ -33,7 +33,7 @@ pub fn is_covered(code: Code, survivors: PlaceSet, place: Place) -> bool
     true
 }
 
-// Whether a fragment is determined without any one of the places from an index on.
+/// Whether a fragment is determined without any one of the places from an index on.
 fn is_covered_beside(code: Code, left: PlaceSet, from: usize, place: Place) -> bool
     requires { from ≤ 16 }
     ensures yes { result ≡ true → (f : Place) → from ≤ index_of f → IsDetermined code (without code (is_in left) f) place }

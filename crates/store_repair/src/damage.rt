@@ -62,7 +62,7 @@ pub(crate) fn write_places<W: Write>(f: &mut Formatter<W>, places: PlaceSet) -> 
     Ok(())
 }
 
-// Without which survivors the others belong together.
+/// Without which survivors the others belong together.
 #[derive(Clone, Copy)]
 enum Fits {
     Nowhere,
@@ -97,7 +97,7 @@ pub fn find_damaged<F: Fragment>(
     }
 }
 
-// Without which survivors the others belong together.
+/// Without which survivors the others belong together.
 fn fits_without_one<F: Fragment>(
     alloc: Global,
     survivors: &Survivors<'_, F>,
@@ -125,7 +125,7 @@ fn fits_without_one<F: Fragment>(
     }
 }
 
-// Whether the survivors without one of them belong together.
+/// Whether the survivors without one of them belong together.
 fn fit_without<F: Fragment>(
     alloc: Global,
     survivors: &Survivors<'_, F>,
@@ -145,7 +145,7 @@ fn fit_without<F: Fragment>(
     are_consistent(alloc, &others)
 }
 
-// Where damage is, if survivors contradict each other and the others belong together without the one at this place alone.
+/// Where damage is, if survivors contradict each other and the others belong together without the one at this place alone.
 fn damage_beside(code: Code, survivors: PlaceSet, place: Place) -> Damage
     ensures { (at : List (List ℕ)) (len : ℕ) → AreWhole code (is_in survivors) at len → All AreBytes at → length at ≡ 16
         → IsContradiction (tables_of code) (is_in survivors) (at_place at) len → IsDamaged code (is_in survivors) at len place
@@ -161,8 +161,8 @@ fn damage_beside(code: Code, survivors: PlaceSet, place: Place) -> Damage
     })
 }
 
-// The other survivors at which a stripe may differ from the survivors that differs from them in at most two places, where one differs at
-// this place alone.
+/// The other survivors at which a stripe may differ from the survivors that differs from them in at most two places, where one differs at
+/// this place alone.
 fn other_suspects(code: Code, survivors: PlaceSet, place: Place) -> PlaceSet
     ensures { (q : Place) → without code (is_in survivors) place q ≡ true → is_in result q ≡ false
         → IsCleared code (without code (is_in survivors) place) place q }
@@ -180,7 +180,7 @@ fn other_suspects(code: Code, survivors: PlaceSet, place: Place) -> PlaceSet
     suspects
 }
 
-// Whether a stripe may differ at one of the others from survivors, in at most two places, where one differs at `place` alone.
+/// Whether a stripe may differ at one of the others from survivors, in at most two places, where one differs at `place` alone.
 fn is_suspect(code: Code, others: PlaceSet, place: Place, other: Place) -> bool
     ensures { result ≡ false → IsCleared code (is_in others) place other }
 {
@@ -197,7 +197,7 @@ fn is_suspect(code: Code, others: PlaceSet, place: Place, other: Place) -> bool
     false
 }
 
-// Whether the fragments at the places of a set determine one of two others.
+/// Whether the fragments at the places of a set determine one of two others.
 fn determine_one(code: Code, set: PlaceSet, one: Place, other: Place) -> bool
     ensures { result ≡ true → IsOneDetermined code (is_in set) one other }
 {

@@ -35,7 +35,7 @@ pub fn encode<S: Fragment, N: NewFragment>(
     append_combined(alloc, parts.as_slice(), many, rows.as_slice(), files)
 }
 
-// What makes each fragment of the data fragments, in the order of the code's places.
+/// What makes each fragment of the data fragments, in the order of the code's places.
 fn rows_of(alloc: Global, code: Code) -> Result<Vec<[Gf; 16]>, AllocError>
     ensures { IfOk result (λ v. v.items ≡ encoding_rows code) }
 {
@@ -61,7 +61,7 @@ pub(crate) fn unit_row(index: usize) -> [Gf; 16]
     row
 }
 
-// Twelve coefficients with four more of 00.
+/// Twelve coefficients with four more of 00.
 fn widened(row: &[Gf; 12]) -> [Gf; 16]
     ensures { result ≡ row.now ++ (0 ∷ 0 ∷ 0 ∷ 0 ∷ []) }
 {

@@ -29,11 +29,11 @@ pub(crate) struct OpenedFew<F> {
     pub(crate) listed: PlaceSet,
 }
 
-// Which survivors are read.
+/// Which survivors are read.
 #[derive(Clone, Copy)]
 struct Few {
     set: PlaceSet,
-    // Whether they are held to the digests that the store knows of them.
+    /// Whether they are held to the digests that the store knows of them.
     are_digested: bool,
 }
 
@@ -73,7 +73,7 @@ pub(crate) fn open_fewest<S: Store>(
     Ok(Some(OpenedFew { opened, listed }))
 }
 
-// The places at which the store knows digests of a stripe's fragments.
+/// The places at which the store knows digests of a stripe's fragments.
 fn listed_places<S: Store>(store: &S, stripe: &Stripe<'_>) -> Result<PlaceSet, AllocError>
     ensures { IfOk result (λ set. (p : Place) → is_in set p ≡ true → S.listed store.now stripe.now.name.now p) }
 {
@@ -87,7 +87,7 @@ fn listed_places<S: Store>(store: &S, stripe: &Stripe<'_>) -> Result<PlaceSet, A
     Ok(set)
 }
 
-// As few survivors as a repair reads; none where it reads all.
+/// As few survivors as a repair reads; none where it reads all.
 fn few_of(
     alloc: Global,
     repair: &Repair,
@@ -155,7 +155,7 @@ pub fn survivors_read(
     }
 }
 
-// Whether a file of a stripe has another length than the others.
+/// Whether a file of a stripe has another length than the others.
 fn has_any_other(stripe: &Stripe<'_>, code: Code, length: usize) -> bool {
     for place in code.places() {
         if stripe.files.has_other(*place, length as u64) {
@@ -173,7 +173,7 @@ pub(crate) fn is_shown(code: Code, survivors: PlaceSet, listed: PlaceSet, places
     are_among(listed, places) || cover_all(code, survivors, places)
 }
 
-// Whether all of some places are in a set.
+/// Whether all of some places are in a set.
 fn are_among(set: PlaceSet, places: &[Place]) -> bool
     ensures { result ≡ true → All (λ p. is_in set p ≡ true) places.now }
 {
@@ -185,7 +185,7 @@ fn are_among(set: PlaceSet, places: &[Place]) -> bool
     true
 }
 
-// Whether survivors cover the fragments at all of some places, and have checks.
+/// Whether survivors cover the fragments at all of some places, and have checks.
 fn cover_all(code: Code, survivors: PlaceSet, places: &[Place]) -> bool
     ensures { result ≡ true → AreCovered code (is_in survivors) places.now }
 {
@@ -197,9 +197,9 @@ fn cover_all(code: Code, survivors: PlaceSet, places: &[Place]) -> bool
     have_checks(code, survivors)
 }
 
-// As few of the survivors as determine the fragments at these places, or cover them. Four columns of a code's equations are dependent only
-// within a group with the globals, and three never are, so that one of two orders of leaving places out gives the fewest that determine
-// them, and each order the fewest that cover them.
+/// As few of the survivors as determine the fragments at these places, or cover them. Four columns of a code's equations are dependent only
+/// within a group with the globals, and three never are, so that one of two orders of leaving places out gives the fewest that determine
+/// them, and each order the fewest that cover them.
 fn fewest(code: Code, survivors: PlaceSet, places: &[Place], covered: bool) -> PlaceSet
     ensures own { (p : Place) → is_in result p ≡ true → is_in survivors p ≡ true }
     ensures enough { All (IsDetermined code (is_in survivors)) places.now → All (IsDetermined code (is_in result)) places.now }
@@ -216,7 +216,7 @@ fn fewest(code: Code, survivors: PlaceSet, places: &[Place], covered: bool) -> P
     }
 }
 
-// The survivors without those that can be left out: of the globals first, then of a group, then of the other.
+/// The survivors without those that can be left out: of the globals first, then of a group, then of the other.
 fn thinned(
     code: Code,
     survivors: PlaceSet,
@@ -236,7 +236,7 @@ fn thinned(
     without_group(code, of_other, places, covered, Some(other))
 }
 
-// The set without those of the places of a group, or of the globals, that can be left out.
+/// The set without those of the places of a group, or of the globals, that can be left out.
 fn without_group(
     code: Code,
     set: PlaceSet,
@@ -259,14 +259,14 @@ fn without_group(
     left
 }
 
-// Whether the fragments at the places of a set determine those at all of some places, and cover them if that is asked for.
+/// Whether the fragments at the places of a set determine those at all of some places, and cover them if that is asked for.
 fn are_enough(code: Code, set: PlaceSet, places: &[Place], covered: bool) -> bool
     ensures { result ≡ true → All (IsDetermined code (is_in set)) places.now }
 {
     determine_all(code, set, places) && (!covered || cover_all(code, set, places))
 }
 
-// Whether the fragments at the places of a set determine those at all of some places.
+/// Whether the fragments at the places of a set determine those at all of some places.
 fn determine_all(code: Code, set: PlaceSet, places: &[Place]) -> bool
     ensures { result ≡ true → All (IsDetermined code (is_in set)) places.now }
 {

@@ -59,7 +59,7 @@ pub fn read_file<F: Fragment, N: NewFragment>(
     Ok(())
 }
 
-// The row that gives the bytes at a place; a survivor gives its own.
+/// The row that gives the bytes at a place; a survivor gives its own.
 fn row_of(code: Code, reduced: &Reduced, survivors: PlaceSet, place: Place) -> Option<[Gf; 16]>
     requires place { has_place (tables_of code) place ≡ true }
     requires reduced { IsReduction (tables_of code) (λ p. not (is_in survivors p)) reduced.now }
@@ -73,7 +73,7 @@ fn row_of(code: Code, reduced: &Reduced, survivors: PlaceSet, place: Place) -> O
     value_from(code, reduced, survivors, place)
 }
 
-// Appends to `output` so many bytes of the combination of the survivors by a row.
+/// Appends to `output` so many bytes of the combination of the survivors by a row.
 fn append_part<F: Fragment, N: NewFragment>(
     alloc: Global,
     fragments: &[Option<F>],
@@ -92,7 +92,7 @@ fn append_part<F: Fragment, N: NewFragment>(
     append_combined(alloc, used.as_slice(), many, &rows, slice::from_mut(output))
 }
 
-// The fragments whose coefficients in a row aren't 00.
+/// The fragments whose coefficients in a row aren't 00.
 fn fragments_of<'f, F: Fragment>(
     alloc: Global,
     row: &[Gf; 16],
@@ -109,7 +109,7 @@ fn fragments_of<'f, F: Fragment>(
     Ok(used)
 }
 
-// A fragment, if its coefficient isn't 00.
+/// A fragment, if its coefficient isn't 00.
 fn fragment_of<'f, F: Fragment>(coefficient: Gf, fragment: &'f Option<F>) -> Option<&'f F>
     ensures { (bytes : List ℕ) → shown_of F.shown fragment.now ≡ Some bytes
         → shown_of (λ f. F.shown f.now) result ≡ Some (if coefficient == 0 then [] else bytes) }

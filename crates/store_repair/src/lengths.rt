@@ -50,7 +50,7 @@ pub fn stripe_length<S: Store>(
     }
 }
 
-// So many bytes, if memory can be as long.
+/// So many bytes, if memory can be as long.
 fn as_known(length: u64) -> StripeLength
     ensures { IfKnown (λ len. len ≡ length) result }
 {
@@ -60,7 +60,7 @@ fn as_known(length: u64) -> StripeLength
     }
 }
 
-// How many bytes each file at a code's places has; none where there are no files, or where these differ in length.
+/// How many bytes each file at a code's places has; none where there are no files, or where these differ in length.
 fn common_length(code: Code, files: &StripeFiles) -> Option<u64>
     ensures { IfSome result (HaveOneLength code files.now.found) }
 {
@@ -76,7 +76,7 @@ fn common_length(code: Code, files: &StripeFiles) -> Option<u64>
     common
 }
 
-// How many bytes the file at a place has, if there is one and the place is the code's.
+/// How many bytes the file at a place has, if there is one and the place is the code's.
 fn length_at(code: Code, files: &StripeFiles, place: Place) -> Option<u64>
     ensures { MatchOption result ((len : ℕ) → HasLengthAt code files.now.found len place)
         (λ len. HasLengthAt code files.now.found len place) }
@@ -111,7 +111,7 @@ pub(crate) fn length_or_note<S: Store>(
     Ok(None)
 }
 
-// The lengths of the files at a code's places, in the order of the first file of each.
+/// The lengths of the files at a code's places, in the order of the first file of each.
 fn lengths_of(alloc: Global, code: Code, files: &StripeFiles) -> Result<Lengths, AllocError> {
     let mut groups: Vec<LengthGroup> = Vec::new(alloc);
     for index in 0..16 {
@@ -127,7 +127,7 @@ fn lengths_of(alloc: Global, code: Code, files: &StripeFiles) -> Result<Lengths,
     Ok(Lengths { groups })
 }
 
-// The only one of several lengths whose fragments have checks and belong together.
+/// The only one of several lengths whose fragments have checks and belong together.
 fn confirmed_length<S: Store>(
     alloc: Global,
     store: &S,
@@ -152,7 +152,7 @@ fn confirmed_length<S: Store>(
     Ok(confirmed)
 }
 
-// Whether a stripe's fragments of a length have bytes and checks, and belong together.
+/// Whether a stripe's fragments of a length have bytes and checks, and belong together.
 fn is_confirmed<S: Store>(
     alloc: Global,
     store: &S,

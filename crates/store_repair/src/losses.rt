@@ -62,7 +62,7 @@ pub fn lost_places(
     })
 }
 
-// Whether any fragment survives. None determine nothing.
+/// Whether any fragment survives. None determine nothing.
 fn has_any(survivors: PlaceSet) -> bool
     ensures some { result ≡ true → HasAny (is_in survivors) }
     ensures none { result ≡ false → (q : Place) → is_in survivors q ≡ false }
@@ -75,7 +75,7 @@ fn has_any(survivors: PlaceSet) -> bool
     false
 }
 
-// Whether a place among some is the code's and lost.
+/// Whether a place among some is the code's and lost.
 fn is_lost(code: Code, survivors: PlaceSet, among: PlaceSet, place: Place) -> bool
     ensures lost { result ≡ true → (has_place (tables_of code) place ≡ true) × (is_in survivors place ≡ false) }
     ensures other { result ≡ false → ¬ IsLostAmong code (is_in survivors) (is_in among) place }
@@ -83,7 +83,7 @@ fn is_lost(code: Code, survivors: PlaceSet, among: PlaceSet, place: Place) -> bo
     code.has(place) && !survivors.has(place) && among.has(place)
 }
 
-// Whether the survivors, of which there has to be one, determine the fragment at a lost place.
+/// Whether the survivors, of which there has to be one, determine the fragment at a lost place.
 fn is_given(code: Code, reduced: &Reduced, survivors: PlaceSet, place: Place) -> bool
     requires { IsReduction (tables_of code) (λ p. not (is_in survivors p)) reduced.now }
     ensures some { result ≡ true → HasAny (is_in survivors) }
@@ -142,7 +142,7 @@ pub(crate) fn are_checked(code: Code, survivors: PlaceSet, length: usize) -> boo
     length > 0 && have_checks(code, survivors)
 }
 
-// Whether a row has a coefficient that isn't 00.
+/// Whether a row has a coefficient that isn't 00.
 fn has_term(row: &[Gf; 16]) -> bool
     ensures { result ≡ true → HasTerm row.now }
 {

@@ -23,7 +23,7 @@ use crate::stripes::Stripe;
 use lrc_code::{Place, PlaceSet};
 use std::alloc::{AllocError, Global};
 
-// Rebuilt fragments that have no names yet: the survivors that they are made from, whether these are checked, and a file for each place.
+/// Rebuilt fragments that have no names yet: the survivors that they are made from, whether these are checked, and a file for each place.
 #[derive(Drop)]
 pub(crate) struct Made<N> {
     pub(crate) set: PlaceSet,
@@ -32,7 +32,7 @@ pub(crate) struct Made<N> {
     pub(crate) files: Vec<N>,
 }
 
-// What an attempt came to.
+/// What an attempt came to.
 #[derive(Drop)]
 pub(crate) enum Attempt<N> {
     Made(Made<N>),
@@ -79,7 +79,7 @@ pub(crate) fn make<S: Store>(
     Ok(None)
 }
 
-// What was made, which isn't checked where a survivor was left out by a guess.
+/// What was made, which isn't checked where a survivor was left out by a guess.
 fn held<N>(made: Made<N>, has_guessed: bool) -> Made<N>
     ensures set { result.set ≡ made.set }
     ensures places { result.places ≡ made.places }
@@ -180,7 +180,7 @@ pub(crate) fn note_all(places: &[Place], findings: &mut Vec<Finding>) -> Result<
     Ok(())
 }
 
-// New files for fragments at these places, if they can be made.
+/// New files for fragments at these places, if they can be made.
 fn new_files<S: Store>(
     alloc: Global,
     store: &mut S,
@@ -210,7 +210,7 @@ fn new_files<S: Store>(
     Ok(Some(files))
 }
 
-// Discards files. One that can't be discarded is left over.
+/// Discards files. One that can't be discarded is left over.
 pub(crate) fn discard_all<S: Store>(
     store: &mut S,
     files: Vec<S::New>,
@@ -227,7 +227,7 @@ pub(crate) fn discard_all<S: Store>(
     Ok(())
 }
 
-// Discards a file, or notes that it is left over.
+/// Discards a file, or notes that it is left over.
 pub(crate) fn discard<S: Store>(
     store: &mut S,
     file: S::New,
@@ -245,7 +245,7 @@ pub(crate) fn discard<S: Store>(
     }
 }
 
-// Notes which survivor of a contradiction is damaged, which then is left out, or that it can't be told.
+/// Notes which survivor of a contradiction is damaged, which then is left out, or that it can't be told.
 fn after_contradiction<F: Fragment, N>(
     alloc: Global,
     repair: &Repair,
@@ -273,7 +273,7 @@ fn after_contradiction<F: Fragment, N>(
     }
 }
 
-// Notes the suspects of a contradiction, or the one that is taken for the damaged one, which then is left out.
+/// Notes the suspects of a contradiction, or the one that is taken for the damaged one, which then is left out.
 fn after_suspicion<N>(
     repair: &Repair,
     suspects: Suspects,
@@ -295,7 +295,7 @@ fn after_suspicion<N>(
     Ok(Attempt::GivenUp)
 }
 
-// Notes why fragments at these places couldn't be rebuilt. A survivor that can't be read is left out.
+/// Notes why fragments at these places couldn't be rebuilt. A survivor that can't be read is left out.
 fn after_fault<N>(
     fault: MendFault,
     places: &[Place],

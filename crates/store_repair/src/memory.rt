@@ -17,12 +17,12 @@ use std::io::{self, ErrorKind};
 #[derive(Drop)]
 pub struct MemoryStore {
     alloc: Global,
-    // Of several entries of one name the first counts.
+    /// Of several entries of one name the first counts.
     pub(crate) fragments: Vec<Entry>,
     pub(crate) replaced: Vec<Entry>,
 }
 
-// The bytes of a stripe's fragment at a place.
+/// The bytes of a stripe's fragment at a place.
 #[derive(Drop)]
 pub(crate) struct Entry {
     stripe: String,
@@ -59,7 +59,7 @@ impl NewFragment for MemoryFragment {
     }
 }
 
-// The entry that counts for a stripe's fragment at a place.
+/// The entry that counts for a stripe's fragment at a place.
 fn entry_of<'e>(entries: &'e [Entry], stripe: &str, place: Place) -> Option<&'e Entry>
     ensures { option_copied result ≡ find (is_entry stripe.now place) entries.now }
 {
@@ -67,7 +67,7 @@ fn entry_of<'e>(entries: &'e [Entry], stripe: &str, place: Place) -> Option<&'e 
         && entry.place.index() == place.index())
 }
 
-// The bytes of a stripe's fragment at a place.
+/// The bytes of a stripe's fragment at a place.
 fn bytes_at<'e>(entries: &'e [Entry], stripe: &str, place: Place) -> Option<&'e [u8]>
     ensures { option_map (λ b. b.now) result ≡ names_of entries.now stripe.now place }
 {
@@ -77,7 +77,7 @@ fn bytes_at<'e>(entries: &'e [Entry], stripe: &str, place: Place) -> Option<&'e 
     }
 }
 
-// Puts an entry before the others, so that it counts.
+/// Puts an entry before the others, so that it counts.
 fn put_entry(
     alloc: Global,
     entries: &mut Vec<Entry>,
@@ -139,7 +139,7 @@ impl MemoryStore {
         bytes_at(self.replaced.as_slice(), stripe, place)
     }
 
-    // Gives bytes a name, if nothing is there.
+    /// Gives bytes a name, if nothing is there.
     fn give_name(&mut self, stripe: &str, place: Place, bytes: Vec<u8>) -> io::Result<Placed>
         ensures { GivesName result stripe.now place bytes.items (files_of self.old) (files_of self.new) }
     {
@@ -150,7 +150,7 @@ impl MemoryStore {
         Ok(Placed::Placed)
     }
 
-    // Gives bytes the name of what is there, which gets its second name, if nothing has that.
+    /// Gives bytes the name of what is there, which gets its second name, if nothing has that.
     fn exchange_name(&mut self, stripe: &str, place: Place, bytes: Vec<u8>) -> io::Result<Placed>
         ensures { ExchangesName result stripe.now place bytes.items (files_of self.old) (files_of self.new) }
     {
@@ -166,7 +166,7 @@ impl MemoryStore {
         Ok(Placed::Placed)
     }
 
-    // Puts bytes under a name, and others under its second name; without memory neither.
+    /// Puts bytes under a name, and others under its second name; without memory neither.
     fn put_both(
         &mut self,
         stripe: &str,
@@ -187,7 +187,7 @@ impl MemoryStore {
     }
 }
 
-// A copy of bytes.
+/// A copy of bytes.
 fn copied(alloc: Global, bytes: &[u8]) -> Result<Vec<u8>, AllocError>
     ensures copy { IfOk result (λ v. v.items ≡ bytes.now) }
     ensures bytes { AreBytes bytes.now }

@@ -63,7 +63,7 @@ pub struct Survivors<'f, F> {
     pub fragments: &'f [Option<F>],
 }
 
-// How the lost fragments of a stripe are made: the survivors' combinations that have to be 00, and those that are the lost fragments.
+/// How the lost fragments of a stripe are made: the survivors' combinations that have to be 00, and those that are the lost fragments.
 #[derive(Drop)]
 struct Plan {
     checks: [[Gf; 16]; 4],
@@ -106,7 +106,7 @@ pub fn mend<F: Fragment, N: NewFragment>(
     Ok(true)
 }
 
-// The plan for lost places.
+/// The plan for lost places.
 fn plan_of(
     alloc: Global,
     code: Code,
@@ -131,7 +131,7 @@ fn plan_of(
     Ok(Plan { checks, rows })
 }
 
-// Reads a window, tests the checks in it, and appends to each file its combination of it.
+/// Reads a window, tests the checks in it, and appends to each file its combination of it.
 fn mend_window<F: Fragment, N: NewFragment>(
     survivors: &Survivors<'_, F>,
     plan: &Plan,

@@ -94,7 +94,7 @@ pub(crate) fn open_all<S: Store>(
     })
 }
 
-// Opens the fragment at a place, if it is the code's and has the stripe's length.
+/// Opens the fragment at a place, if it is the code's and has the stripe's length.
 fn open_at<S: Store>(
     store: &S,
     code: Code,

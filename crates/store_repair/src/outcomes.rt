@@ -170,7 +170,7 @@ impl Outcome {
     }
 }
 
-// Whether a place is listed.
+/// Whether a place is listed.
 fn is_among(places: &[Place], place: Place) -> bool
     ensures yes { result ≡ true → Contains places.now place }
     ensures no { result ≡ false → ¬ Contains places.now place }
@@ -220,7 +220,7 @@ pub(crate) fn is_named(findings: &[Finding], place: Place) -> bool
 }
 
 impl Finding {
-    // Whether it says of the fragment at a place that it is damaged.
+    /// Whether it says of the fragment at a place that it is damaged.
     fn is_of_damage(&self, place: Place) -> bool
         ensures { result ≡ true → Contains (damaged_by self.now.reason self.now.place) place }
     {
@@ -230,7 +230,7 @@ impl Finding {
         }
     }
 
-    // Whether it says of the fragment at a place that it differs from the store's checksums.
+    /// Whether it says of the fragment at a place that it differs from the store's checksums.
     fn is_of_checksums(&self, place: Place) -> bool
         ensures { result ≡ true → Contains (differing_by self.now.reason self.now.place) place }
     {
@@ -240,7 +240,7 @@ impl Finding {
         }
     }
 
-    // Whether it is of the fragment at a place.
+    /// Whether it is of the fragment at a place.
     fn names(&self, place: Place) -> bool
         ensures { result ≡ true → Contains (named_by self.now.place) place }
     {

@@ -32,7 +32,7 @@ impl<'s, S: Fragment> Fragment for Part<'s, S> {
     }
 }
 
-// Fills bytes with those of a file from a position on, so many, and 00 after them.
+/// Fills bytes with those of a file from a position on, so many, and 00 after them.
 fn read_padded<S: Fragment>(
     source: &S,
     from: usize,

@@ -61,7 +61,7 @@ pub fn plan_stripe<S: Store>(
     Ok(plan)
 }
 
-// What a repair of a stripe from these survivors would do.
+/// What a repair of a stripe from these survivors would do.
 fn planned<F>(
     alloc: Global,
     repair: &Repair,

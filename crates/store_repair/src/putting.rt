@@ -21,7 +21,7 @@ use lrc_code::{Place, PlaceSet};
 use std::alloc::{AllocError, Global};
 use std::io;
 
-// What is done with a rebuilt fragment.
+/// What is done with a rebuilt fragment.
 #[derive(Drop)]
 enum Way {
     Place,
@@ -96,8 +96,8 @@ pub(crate) fn settle<S: Store>(store: &mut S, findings: &mut Vec<Finding>) -> Re
     }
 }
 
-// What is done with a rebuilt fragment under whose name something was found. Only a fragment that no fault kept from being read is
-// replaced.
+/// What is done with a rebuilt fragment under whose name something was found. Only a fragment that no fault kept from being read is
+/// replaced.
 fn way_of(repair: &Repair, stripe: &Stripe<'_>, known: &Known<'_>, place: Place) -> Way
     ensures replaced { replaces result ≡ true → MayReplace repair.now.replace_damaged repair.now.code (is_in known.now.survivors)
         known.now.is_checked known.now.length stripe.now.files.found known.now.findings.now place }
@@ -120,8 +120,8 @@ fn way_of(repair: &Repair, stripe: &Stripe<'_>, known: &Known<'_>, place: Place)
     Way::Leave(Some(Reason::of(found)))
 }
 
-// Whether the fragment at a place is to be replaced by the one that was rebuilt: it differs from the checksums, to which the store holds
-// what replaces it, or it is known to be damaged or to have another length, and the survivors cover it.
+/// Whether the fragment at a place is to be replaced by the one that was rebuilt: it differs from the checksums, to which the store holds
+/// what replaces it, or it is known to be damaged or to have another length, and the survivors cover it.
 fn may_replace(repair: &Repair, stripe: &Stripe<'_>, known: &Known<'_>, place: Place) -> bool
     ensures { result ≡ true → MayReplace repair.now.replace_damaged repair.now.code (is_in known.now.survivors) known.now.is_checked
         known.now.length stripe.now.files.found known.now.findings.now place }
@@ -135,20 +135,20 @@ fn may_replace(repair: &Repair, stripe: &Stripe<'_>, known: &Known<'_>, place: P
     has_cause(stripe, known, place) && is_covered(repair.code, known.survivors, place)
 }
 
-// Whether the fragment at a place is known to be damaged or to have another length.
+/// Whether the fragment at a place is known to be damaged or to have another length.
 fn has_cause(stripe: &Stripe<'_>, known: &Known<'_>, place: Place) -> bool
     ensures { result ≡ true → HasCause known.now.findings.now stripe.now.files.found known.now.length place }
 {
     stripe.files.has_other(place, known.length as u64) || is_said_damaged(known.findings, place)
 }
 
-// Whether the first finding that names a place says that the system refused something.
+/// Whether the first finding that names a place says that the system refused something.
 fn is_of_device(findings: &[Finding], place: Place) -> bool {
     let noted = findings.iter().find(|finding| finding.place == Some(place));
     noted.is_some_and(|finding| finding.reason.is_of_device())
 }
 
-// Gives a rebuilt fragment its name in this way, and says whether it has it.
+/// Gives a rebuilt fragment its name in this way, and says whether it has it.
 fn put_one<S: Store>(
     store: &mut S,
     stripe: &Stripe<'_>,
@@ -186,7 +186,7 @@ fn put_one<S: Store>(
     }
 }
 
-// Notes why a fragment didn't get its name, and says whether it did.
+/// Notes why a fragment didn't get its name, and says whether it did.
 fn note_placed(
     outcome: io::Result<Placed>,
     place: Place,

@@ -82,7 +82,7 @@ pub fn repair_stripe<S: Store>(
     })
 }
 
-// Whether a survivor was changed while it was read.
+/// Whether a survivor was changed while it was read.
 fn has_changed(findings: &[Finding]) -> bool
     ensures { result ≡ true → findings.now ≢ [] }
 {
@@ -91,7 +91,7 @@ fn has_changed(findings: &[Finding]) -> bool
         .any(|finding| matches!(finding.reason, Reason::Changed))
 }
 
-// Makes files for the lost fragments, from the survivors that are to be read.
+/// Makes files for the lost fragments, from the survivors that are to be read.
 fn make_lost<S: Store>(
     alloc: Global,
     store: &mut S,

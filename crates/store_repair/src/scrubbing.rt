@@ -58,7 +58,7 @@ pub fn scrub_stripe<S: Store>(
     })
 }
 
-// Notes the places at which there is no fragment of the stripe's length.
+/// Notes the places at which there is no fragment of the stripe's length.
 fn note_lost(
     alloc: Global,
     code: Code,
@@ -74,7 +74,7 @@ fn note_lost(
     Ok(())
 }
 
-// Tests whether the survivors belong together, if there are checks.
+/// Tests whether the survivors belong together, if there are checks.
 fn test<F: Fragment>(
     alloc: Global,
     survivors: &Survivors<'_, F>,
@@ -100,7 +100,7 @@ fn test<F: Fragment>(
     }
 }
 
-// Notes where survivors are damaged.
+/// Notes where survivors are damaged.
 fn note_damage(damage: Damage, findings: &mut Vec<Finding>) -> Result<(), AllocError>
     ensures said { OnOk result (said_damaged findings.new.items ≡ said_damaged findings.old.items ++ damaged_at damage) }
     ensures silent { OnOk result (findings.new.items ≡ [] → damage ≡ Nowhere) }
@@ -113,7 +113,7 @@ fn note_damage(damage: Damage, findings: &mut Vec<Finding>) -> Result<(), AllocE
     }
 }
 
-// Notes why survivors couldn't be tested.
+/// Notes why survivors couldn't be tested.
 fn note_fault(fault: MendFault, findings: &mut Vec<Finding>) -> Result<(), AllocError>
     ensures said { OnOk result (said_damaged findings.new.items ≡ said_damaged findings.old.items) }
     ensures some { OnOk result (findings.new.items ≢ []) }

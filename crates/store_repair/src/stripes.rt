@@ -147,7 +147,7 @@ impl StripeFiles {
         Ok(lost)
     }
 
-    // Whether a place is the code's, and there is no file of so many bytes.
+    /// Whether a place is the code's, and there is no file of so many bytes.
     fn is_lost(&self, code: Code, place: Place, length: u64) -> bool
         ensures { result ≡ (has_place (tables_of code) place && not (has_file self.now.found length place)) }
     {
@@ -168,7 +168,7 @@ impl StripeFiles {
         set
     }
 
-    // Whether a place is the code's, and there is a file of so many bytes.
+    /// Whether a place is the code's, and there is a file of so many bytes.
     fn survives(&self, code: Code, place: Place, length: u64) -> bool
         ensures { result ≡ (has_place (tables_of code) place && has_file self.now.found length place) }
     {

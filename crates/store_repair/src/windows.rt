@@ -66,7 +66,7 @@ pub(crate) fn read_window<F: Fragment>(
     Ok(())
 }
 
-// Reads a window of one fragment into its room; of a lost one nothing.
+/// Reads a window of one fragment into its room; of a lost one nothing.
 fn read_into<F: Fragment>(
     fragment: &Option<F>,
     from: usize,
@@ -116,7 +116,7 @@ pub(crate) fn are_zero(rows: &[[Gf; 16]; 4], size: usize, slices: &[&[u8]]) -> b
     true
 }
 
-// Whether a row's combination of the slices is 00 at every position.
+/// Whether a row's combination of the slices is 00 at every position.
 fn is_zero(row: &[Gf; 16], size: usize, slices: &[&[u8]]) -> bool
     requires { HaveOrNone size (map (λ s. s.now) slices.now) }
     ensures { IsTrue result ↔ IsZeroRow row.now (map (λ s. s.now) slices.now) size }
@@ -146,7 +146,7 @@ pub(crate) fn append_sums<N: NewFragment>(
     Ok(())
 }
 
-// Appends to a file a row's combination of the slices.
+/// Appends to a file a row's combination of the slices.
 fn append_sum<N: NewFragment>(
     row: &[Gf; 16],
     slices: &[&[u8]],

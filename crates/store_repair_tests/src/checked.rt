@@ -9,7 +9,7 @@ use std::process::Abort;
 use store_folder::{Site, Sums};
 use store_repair::{MemoryStore, Outcome, Reads, Reason, Repair};
 
-// The SHA-256 digest of the byte 01, as `sha256sum` prints it.
+/// The SHA-256 digest of the byte 01, as `sha256sum` prints it.
 const OF_01: [u8; 32] = [
     0x4b, 0xf5, 0x12, 0x2f, 0x34, 0x45, 0x54, 0xc5, 0x3b, 0xde, 0x2e, 0xbb, 0x8c, 0xd2, 0xb7, 0xe3,
     0xd1, 0x60, 0x0a, 0xd6, 0x31, 0xc3, 0x85, 0xa5, 0xd7, 0xcc, 0xe2, 0x3c, 0x77, 0x85, 0x45, 0x9a,
@@ -25,7 +25,7 @@ fn checked_repair(code: Code) -> Repair {
     }
 }
 
-// A store with a sample's fragments but for those at lost places.
+/// A store with a sample's fragments but for those at lost places.
 fn store_without(
     alloc: Global,
     sample: &Sample,
@@ -36,7 +36,7 @@ fn store_without(
     Ok(store)
 }
 
-// Whether all that is lost was rebuilt from so many survivors, which are checked and cover it.
+/// Whether all that is lost was rebuilt from so many survivors, which are checked and cover it.
 fn is_covered_by(outcome: &Outcome, code: Code, lost: &[Place], survivors: usize) -> bool {
     for place in lost {
         if !outcome.is_checked_at(code, *place) {
@@ -48,7 +48,7 @@ fn is_covered_by(outcome: &Outcome, code: Code, lost: &[Place], survivors: usize
         && outcome.findings.is_empty()
 }
 
-// Asserts that this is so where these are lost, and that a plan says so.
+/// Asserts that this is so where these are lost, and that a plan says so.
 fn assert_covered_by(
     rt: &impl Abort,
     alloc: Global,
@@ -74,8 +74,8 @@ fn assert_covered_by(
     Ok(())
 }
 
-// How many survivors cover a fragment of a group, and a global parity, found by trying all sets of them: without a group's own fragment all
-// but a parity, and without a global parity all.
+/// How many survivors cover a fragment of a group, and a global parity, found by trying all sets of them: without a group's own fragment
+/// all but a parity, and without a global parity all.
 const COVER: [(Code, usize, usize); 2] = [(Code::Narrow, 8, 9), (Code::Wide, 14, 15)];
 
 #[test]
@@ -88,7 +88,7 @@ fn as_few_are_read_as_cover_what_is_lost(rt: HostRuntime) -> Result<(), AllocErr
     Ok(())
 }
 
-// Asserts how many survivors cover the fragment at a place, if it alone is lost.
+/// Asserts how many survivors cover the fragment at a place, if it alone is lost.
 fn assert_covered_alone(
     rt: &impl Abort,
     alloc: Global,
@@ -107,12 +107,12 @@ fn assert_covered_alone(
     Ok(())
 }
 
-// Whether x0 and x1 were rebuilt from all others.
+/// Whether x0 and x1 were rebuilt from all others.
 fn are_of_all_eight(outcome: &Outcome) -> bool {
     outcome.rebuilt.len() == 2 && outcome.survivors.len() == 8 && outcome.is_checked
 }
 
-// Two of a group are covered by no survivors: all are read.
+/// Two of a group are covered by no survivors: all are read.
 #[test]
 fn all_are_read_where_none_cover(rt: HostRuntime) -> Result<(), AllocError> {
     let mut store = store_without(rt.alloc(), narrow(), &[Place::X0, Place::X1])?;
@@ -127,7 +127,7 @@ fn all_are_read_where_none_cover(rt: HostRuntime) -> Result<(), AllocError> {
     Ok(())
 }
 
-// What is said of the fragment at a place, if nothing else is said.
+/// What is said of the fragment at a place, if nothing else is said.
 fn said_of(outcome: &Outcome, place: Place) -> Option<&Reason> {
     if outcome.findings.len() != 1 {
         return None;
@@ -144,7 +144,7 @@ fn is_damaged(outcome: &Outcome, place: Place) -> bool {
     matches!(said_of(outcome, place), Some(Reason::Damaged))
 }
 
-// Of the survivors that are read one is damaged: all are read, which say which it is.
+/// Of the survivors that are read one is damaged: all are read, which say which it is.
 #[test]
 fn damage_of_one_that_is_read_is_found_by_all(rt: HostRuntime) -> Result<(), AllocError> {
     let mut store = store_without(rt.alloc(), short(), &[Place::X0])?;
@@ -160,7 +160,7 @@ fn damage_of_one_that_is_read_is_found_by_all(rt: HostRuntime) -> Result<(), All
     Ok(())
 }
 
-// A stripe that lost nothing isn't read, so that damage in it isn't looked for.
+/// A stripe that lost nothing isn't read, so that damage in it isn't looked for.
 #[test]
 fn whole_stripe_is_not_read(rt: HostRuntime) -> Result<(), AllocError> {
     let mut store = store_without(rt.alloc(), short(), &[])?;
@@ -176,7 +176,7 @@ fn whole_stripe_is_not_read(rt: HostRuntime) -> Result<(), AllocError> {
     Ok(())
 }
 
-// Repairs the sample in a folder whose sums say these digests of its fragments.
+/// Repairs the sample in a folder whose sums say these digests of its fragments.
 fn repaired_with(
     rt: &HostRuntime,
     files: MemoryFolder,
@@ -194,12 +194,12 @@ fn repaired_with(
     Ok((outcome?, files))
 }
 
-// Whether x1 alone was rebuilt from so many survivors.
+/// Whether x1 alone was rebuilt from so many survivors.
 fn is_x1_of(outcome: &Outcome, survivors: usize) -> bool {
     outcome.rebuilt.as_slice() == [Place::X1].as_slice() && outcome.survivors.len() == survivors
 }
 
-// Asserts that x1 is 02 in a folder.
+/// Asserts that x1 is 02 in a folder.
 fn assert_x1(rt: &impl Abort, alloc: Global, files: &MemoryFolder) -> Result<(), AllocError> {
     let path = path_of(alloc, Place::X1)?;
     assert_holds(
@@ -210,7 +210,7 @@ fn assert_x1(rt: &impl Abort, alloc: Global, files: &MemoryFolder) -> Result<(),
     Ok(())
 }
 
-// A fragment whose digest is known is rebuilt from the three others of its group, also beside damage elsewhere.
+/// A fragment whose digest is known is rebuilt from the three others of its group, also beside damage elsewhere.
 #[test]
 fn three_are_read_for_one_with_a_digest(rt: HostRuntime) -> Result<(), AllocError> {
     let files = folder_without(rt.alloc(), &[Place::X1], Some(Place::Y0))?;
@@ -224,7 +224,7 @@ fn differs(outcome: &Outcome, place: Place) -> bool {
     matches!(said_of(outcome, place), Some(Reason::Differs))
 }
 
-// What is made of a damaged survivor differs from its digest: all are read, of which the digest of the damaged one says which it is.
+/// What is made of a damaged survivor differs from its digest: all are read, of which the digest of the damaged one says which it is.
 #[test]
 fn digest_of_what_is_rebuilt_shows_damage(rt: HostRuntime) -> Result<(), AllocError> {
     let files = folder_without(rt.alloc(), &[Place::X1], Some(Place::X0))?;
@@ -239,7 +239,7 @@ fn rebuilt_differs(outcome: &Outcome, place: Place) -> bool {
     matches!(said_of(outcome, place), Some(Reason::RebuiltDiffers))
 }
 
-// Where the digest is wrong nothing gets the name, and no survivor is blamed.
+/// Where the digest is wrong nothing gets the name, and no survivor is blamed.
 #[test]
 fn wrong_digest_is_said_of_what_is_rebuilt(rt: HostRuntime) -> Result<(), AllocError> {
     let files = folder_without(rt.alloc(), &[Place::X1], None)?;
@@ -256,7 +256,7 @@ fn has_other_length(outcome: &Outcome, place: Place) -> bool {
     matches!(said_of(outcome, place), Some(Reason::OtherLength))
 }
 
-// A fragment of another length has a digest, and all are read, so that it is known whether what would replace it is checked.
+/// A fragment of another length has a digest, and all are read, so that it is known whether what would replace it is checked.
 #[test]
 fn all_are_read_where_one_has_another_length(rt: HostRuntime) -> Result<(), AllocError> {
     let mut files = folder_without(rt.alloc(), &[Place::X1], None)?;
@@ -269,7 +269,7 @@ fn all_are_read_where_one_has_another_length(rt: HostRuntime) -> Result<(), Allo
     Ok(())
 }
 
-// Where one of two has no digest, as many are read as cover both: all eight.
+/// Where one of two has no digest, as many are read as cover both: all eight.
 #[test]
 fn one_without_a_digest_is_covered(rt: HostRuntime) -> Result<(), AllocError> {
     let files = folder_without(rt.alloc(), &[Place::X1, Place::Y0], None)?;

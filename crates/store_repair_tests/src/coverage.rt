@@ -6,8 +6,8 @@ use std::alloc::{AllocError, Global};
 use std::process::Abort;
 use store_repair::{MemoryStore, Reads, Repair, is_covered};
 
-// Whether both lost fragments are right though two others are damaged, by the code's equations (`tools/store.py`): where one is of each
-// group, parities among them, and neither is a global parity.
+/// Whether both lost fragments are right though two others are damaged, by the code's equations (`tools/store.py`): where one is of each
+/// group, parities among them, and neither is a global parity.
 fn are_covered(one: Place, other: Place) -> bool {
     match (one.group(), other.group()) {
         (Some(Group::X), Some(Group::Y)) | (Some(Group::Y), Some(Group::X)) => true,
@@ -15,7 +15,7 @@ fn are_covered(one: Place, other: Place) -> bool {
     }
 }
 
-// Whether both of two lost fragments are covered just where they must be, and none of three of which some others are before them.
+/// Whether both of two lost fragments are covered just where they must be, and none of three of which some others are before them.
 fn is_pair_covered(code: Code, one: Place, other: Place, before: &[Place]) -> bool {
     let both = PlaceSet::empty().with(one).with(other);
     let expected = are_covered(one, other);
@@ -28,7 +28,7 @@ fn is_pair_covered(code: Code, one: Place, other: Place, before: &[Place]) -> bo
         && is_covered(code, code.others(both), other) == expected
 }
 
-// Whether a lost fragment is covered, and each pair with one of those before it just where it must be.
+/// Whether a lost fragment is covered, and each pair with one of those before it just where it must be.
 fn is_place_covered(code: Code, one: Place, before: &[Place]) -> bool {
     for (second, other) in before.iter().enumerate() {
         if !is_pair_covered(code, one, *other, &before[..second]) {
@@ -38,7 +38,7 @@ fn is_place_covered(code: Code, one: Place, before: &[Place]) -> bool {
     is_covered(code, code.others(PlaceSet::empty().with(one)), one)
 }
 
-// Asserts of each loss of up to three fragments of a code which of them are covered.
+/// Asserts of each loss of up to three fragments of a code which of them are covered.
 fn assert_covered(rt: &impl Abort, code: Code) {
     let places = code.places();
     for (first, one) in places.iter().enumerate() {
@@ -46,7 +46,7 @@ fn assert_covered(rt: &impl Abort, code: Code) {
     }
 }
 
-// Whether a place where nothing is lost is taken for covered.
+/// Whether a place where nothing is lost is taken for covered.
 fn is_covered_in_whole(code: Code, place: Place) -> bool {
     is_covered(code, code.others(PlaceSet::empty()), place)
 }
@@ -61,7 +61,7 @@ fn one_lost_fragment_or_one_of_each_group_is_covered(rt: HostRuntime) {
     assert!(&rt; !is_covered_in_whole(Code::Narrow, Place::X3));
 }
 
-// Asserts that of a stripe that lost two fragments the first is checked or not, after a repair and in a plan.
+/// Asserts that of a stripe that lost two fragments the first is checked or not, after a repair and in a plan.
 fn assert_checked(
     rt: &impl Abort,
     alloc: Global,
@@ -95,8 +95,8 @@ fn assert_checked(
     Ok(())
 }
 
-// Where x0 and x1 are lost, x2 and px that are damaged by the same bytes look like those of a stripe, since the coefficients of x0, x1 and
-// x2 add up to 00, and their squares do: what is rebuilt is wrong, nothing shows, and it isn't checked.
+/// Where x0 and x1 are lost, x2 and px that are damaged by the same bytes look like those of a stripe, since the coefficients of x0, x1 and
+/// x2 add up to 00, and their squares do: what is rebuilt is wrong, nothing shows, and it isn't checked.
 #[test]
 fn damage_of_two_that_does_not_show_is_unchecked(rt: HostRuntime) -> Result<(), AllocError> {
     for sample in [narrow(), wide()] {
@@ -107,7 +107,7 @@ fn damage_of_two_that_does_not_show_is_unchecked(rt: HostRuntime) -> Result<(), 
     Ok(())
 }
 
-// Asserts that a sample whose x2 and px are damaged alike is rebuilt wrongly and unchecked.
+/// Asserts that a sample whose x2 and px are damaged alike is rebuilt wrongly and unchecked.
 fn assert_wrong_and_unchecked(
     rt: &impl Abort,
     alloc: Global,
@@ -131,7 +131,7 @@ fn assert_wrong_and_unchecked(
     Ok(())
 }
 
-// A store with a sample's fragments but for x0 and x1, whose x2 and px are damaged by the same bytes.
+/// A store with a sample's fragments but for x0 and x1, whose x2 and px are damaged by the same bytes.
 fn changed_alike(alloc: Global, sample: &Sample) -> Result<MemoryStore, AllocError> {
     let mut store = MemoryStore::new(alloc);
     put_without(&mut store, sample, &[Place::X0, Place::X1])?;

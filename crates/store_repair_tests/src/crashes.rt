@@ -10,7 +10,7 @@ use std::process::Abort;
 use store_folder::{FolderStore, Links, Pattern, SeparateStore, Site, Sums};
 use store_repair::{Found, Outcome, Reads, Reason, Repair, Stripe, StripeFiles, repair_stripe};
 
-// More ways for a crash to go than these aren't tried at one call.
+/// More ways for a crash to go than these aren't tried at one call.
 const MOST_WAYS: u64 = 300;
 
 /// Where the sample's folder is.
@@ -66,7 +66,7 @@ pub(crate) fn folder_without(
     Ok(files)
 }
 
-// What a folder has under the names of the sample's fragments.
+/// What a folder has under the names of the sample's fragments.
 fn stripe_in(alloc: Global, files: &MemoryFolder) -> Result<Stripe<'static>, AllocError> {
     let mut found = StripeFiles::new();
     for place in short().code.places() {
@@ -82,7 +82,7 @@ fn stripe_in(alloc: Global, files: &MemoryFolder) -> Result<Stripe<'static>, All
     })
 }
 
-// Repairs the sample in a folder, and says what is in that then.
+/// Repairs the sample in a folder, and says what is in that then.
 fn repaired(
     rt: &HostRuntime,
     files: MemoryFolder,
@@ -91,7 +91,7 @@ fn repaired(
     repaired_at(rt, files, SITE, replace_damaged)
 }
 
-// The same at a site of the folder.
+/// The same at a site of the folder.
 fn repaired_at(
     rt: &HostRuntime,
     files: MemoryFolder,
@@ -122,7 +122,7 @@ pub(crate) fn repaired_as(
     Ok((outcome, store.into_files()))
 }
 
-// Asserts that each of the sample's fragments is whole, or absent if it is one of those that were lost.
+/// Asserts that each of the sample's fragments is whole, or absent if it is one of those that were lost.
 fn assert_whole_or_absent(
     rt: &impl Abort,
     alloc: Global,
@@ -141,7 +141,7 @@ fn assert_whole_or_absent(
     Ok(())
 }
 
-// Whether the fragment at a place is whole, or absent where it was lost.
+/// Whether the fragment at a place is whole, or absent where it was lost.
 fn is_whole_or_absent(
     alloc: Global,
     files: &MemoryFolder,
@@ -155,7 +155,7 @@ fn is_whole_or_absent(
     })
 }
 
-// Asserts that there is nothing but the sample's fragments, the other stripe's, and files under temporary names.
+/// Asserts that there is nothing but the sample's fragments, the other stripe's, and files under temporary names.
 fn assert_nothing_else(rt: &impl Abort, files: &MemoryFolder) -> Result<(), AllocError> {
     for path in files.paths()? {
         assert_holds(rt, is_known(path), path);
@@ -163,7 +163,7 @@ fn assert_nothing_else(rt: &impl Abort, files: &MemoryFolder) -> Result<(), Allo
     Ok(())
 }
 
-// Whether a path is one of those.
+/// Whether a path is one of those.
 fn is_known(path: &str) -> bool {
     match path.strip_prefix("store/a.") {
         Some(rest) => is_of_fragment(rest),
@@ -171,7 +171,7 @@ fn is_known(path: &str) -> bool {
     }
 }
 
-// Whether the end of a path is a place's, or that of a fragment under its second name.
+/// Whether the end of a path is a place's, or that of a fragment under its second name.
 fn is_of_fragment(rest: &str) -> bool {
     for place in short().code.places() {
         if place.name() == rest || rest.strip_suffix(".damaged") == Some(place.name()) {
@@ -181,7 +181,7 @@ fn is_of_fragment(rest: &str) -> bool {
     false
 }
 
-// How many calls a repair makes that change something.
+/// How many calls a repair makes that change something.
 fn calls_of(rt: &HostRuntime, lost: &[Place], damaged: Option<Place>) -> Result<u64, AllocError> {
     let (outcome, files) = repaired(
         rt,
@@ -192,8 +192,8 @@ fn calls_of(rt: &HostRuntime, lost: &[Place], damaged: Option<Place>) -> Result<
     Ok(files.count())
 }
 
-// Two are lost, and the machine stops at each call, or the call fails alone: whatever a crash leaves, each name is absent or whole, and the
-// same repair then makes them whole.
+/// Two are lost, and the machine stops at each call, or the call fails alone: whatever a crash leaves, each name is absent or whole, and
+/// the same repair then makes them whole.
 #[test]
 fn a_crash_leaves_each_name_absent_or_whole(rt: HostRuntime) -> Result<(), AllocError> {
     let lost = [Place::X1, Place::Py];
@@ -207,7 +207,7 @@ fn a_crash_leaves_each_name_absent_or_whole(rt: HostRuntime) -> Result<(), Alloc
     Ok(())
 }
 
-// Asserts of a fault that each name is absent or whole then, and after each crash, from which the same repair makes them whole.
+/// Asserts of a fault that each name is absent or whole then, and after each crash, from which the same repair makes them whole.
 fn assert_each_made_whole(
     rt: &impl Abort,
     runtime: &HostRuntime,
@@ -222,7 +222,7 @@ fn assert_each_made_whole(
     Ok(())
 }
 
-// Whether a call and all after it fail, and whether it is done all the same.
+/// Whether a call and all after it fail, and whether it is done all the same.
 const WAYS_TO_FAIL: [(bool, bool); 4] = [
     (true, false),
     (true, true),
@@ -230,7 +230,7 @@ const WAYS_TO_FAIL: [(bool, bool); 4] = [
     (false, true),
 ];
 
-// What a repair leaves of which a call fails. A damaged fragment is replaced.
+/// What a repair leaves of which a call fails. A damaged fragment is replaced.
 fn left_by(
     rt: &HostRuntime,
     lost: &[Place],
@@ -243,7 +243,7 @@ fn left_by(
     Ok(files)
 }
 
-// Asserts that a crash left each name absent or whole, and that the same repair then makes them whole.
+/// Asserts that a crash left each name absent or whole, and that the same repair then makes them whole.
 fn assert_made_whole(
     rt: &impl Abort,
     runtime: &HostRuntime,
@@ -257,7 +257,7 @@ fn assert_made_whole(
     assert_whole_or_absent(rt, runtime.alloc(), &whole, &[])
 }
 
-// What a repair said to be done is on the disk.
+/// What a repair said to be done is on the disk.
 #[test]
 fn done_is_on_the_disk(rt: HostRuntime) -> Result<(), AllocError> {
     let lost = [Place::X0, Place::Y2, Place::P1];
@@ -273,7 +273,7 @@ fn are_three_rebuilt(outcome: &Outcome) -> bool {
     outcome.findings.is_empty() && outcome.rebuilt.len() == 3
 }
 
-// Asserts that a damaged fragment is under its name, or under its second name with the whole one under its name.
+/// Asserts that a damaged fragment is under its name, or under its second name with the whole one under its name.
 fn assert_kept(
     rt: &impl Abort,
     alloc: Global,
@@ -292,7 +292,7 @@ fn assert_kept(
     Ok(())
 }
 
-// Whether the bytes under a name and under its second name are the damaged ones and none or the same, or the whole ones and those.
+/// Whether the bytes under a name and under its second name are the damaged ones and none or the same, or the whole ones and those.
 fn are_kept(bytes: Option<&[u8]>, kept: Option<&[u8]>, whole: &[u8]) -> bool {
     match kept {
         Some(kept) => kept == OTHER && (bytes == Some(OTHER) || bytes == Some(whole)),
@@ -300,7 +300,7 @@ fn are_kept(bytes: Option<&[u8]>, kept: Option<&[u8]>, whole: &[u8]) -> bool {
     }
 }
 
-// A damaged fragment is replaced, and the machine stops at each call: it is under the one name or the other.
+/// A damaged fragment is replaced, and the machine stops at each call: it is under the one name or the other.
 #[test]
 fn a_crash_leaves_what_is_replaced(rt: HostRuntime) -> Result<(), AllocError> {
     let damaged = Place::X2;
@@ -313,7 +313,7 @@ fn a_crash_leaves_what_is_replaced(rt: HostRuntime) -> Result<(), AllocError> {
     Ok(())
 }
 
-// Asserts of a fault that the fragment is there then, and after each crash, from which the same repair replaces it.
+/// Asserts of a fault that the fragment is there then, and after each crash, from which the same repair replaces it.
 fn assert_each_kept(
     rt: &impl Abort,
     runtime: &HostRuntime,
@@ -328,7 +328,7 @@ fn assert_each_kept(
     Ok(())
 }
 
-// Asserts that a crash left a damaged fragment, and that the same repair then replaces it.
+/// Asserts that a crash left a damaged fragment, and that the same repair then replaces it.
 fn assert_kept_and_replaced(
     rt: &impl Abort,
     runtime: &HostRuntime,
@@ -342,7 +342,7 @@ fn assert_kept_and_replaced(
     assert_whole_or_absent(rt, runtime.alloc(), &whole, &[])
 }
 
-// Of two that are lost the sums say the digest of one, and another digest of the other, which gets no name.
+/// Of two that are lost the sums say the digest of one, and another digest of the other, which gets no name.
 #[test]
 fn what_differs_from_its_digest_gets_no_name(rt: HostRuntime) -> Result<(), AllocError> {
     let sums = sums_of_two(rt.alloc())?;
@@ -362,7 +362,7 @@ fn what_differs_from_its_digest_gets_no_name(rt: HostRuntime) -> Result<(), Allo
     Ok(())
 }
 
-// Sums that say the digest of the byte 02 for x1 and py.
+/// Sums that say the digest of the byte 02 for x1 and py.
 fn sums_of_two(alloc: Global) -> Result<Sums, AllocError> {
     let mut sums = Sums::new(alloc);
     sums.set(alloc, "a.x1", OF_02)?;
@@ -370,7 +370,7 @@ fn sums_of_two(alloc: Global) -> Result<Sums, AllocError> {
     Ok(sums)
 }
 
-// Whether x1 alone is rebuilt, and what py would be differs from its digest.
+/// Whether x1 alone is rebuilt, and what py would be differs from its digest.
 fn is_x1_alone_rebuilt(outcome: &Outcome) -> bool {
     outcome.rebuilt.as_slice() == [Place::X1].as_slice() && has_other_py(outcome)
 }
@@ -384,7 +384,7 @@ fn has_other_py(outcome: &Outcome) -> bool {
     false
 }
 
-// A crash leaves of a file that isn't on the disk nothing, a half, all or other bytes, and leaves its path or not.
+/// A crash leaves of a file that isn't on the disk nothing, a half, all or other bytes, and leaves its path or not.
 #[test]
 fn a_crash_tears_what_is_not_on_the_disk(rt: HostRuntime) -> Result<(), io::Error> {
     let mut files = MemoryFolder::new(rt.alloc());
@@ -400,7 +400,7 @@ fn a_crash_tears_what_is_not_on_the_disk(rt: HostRuntime) -> Result<(), io::Erro
     Ok(())
 }
 
-// What of the file a crash may leave.
+/// What of the file a crash may leave.
 const LEFT: &[Option<&[u8]>] = &[
     None,
     Some(b""),
@@ -409,7 +409,7 @@ const LEFT: &[Option<&[u8]>] = &[
     Some(b"\x3b8\x39\x3e"),
 ];
 
-// The first of these that no crash leaves, if there is one.
+/// The first of these that no crash leaves, if there is one.
 fn first_not_left(files: &MemoryFolder) -> Result<Option<Option<&'static [u8]>>, AllocError> {
     for wanted in LEFT {
         if !may_be_left(files, *wanted)? {
@@ -419,7 +419,7 @@ fn first_not_left(files: &MemoryFolder) -> Result<Option<Option<&'static [u8]>>,
     Ok(None)
 }
 
-// Whether some crash leaves these bytes of the file, or no file.
+/// Whether some crash leaves these bytes of the file, or no file.
 fn may_be_left(files: &MemoryFolder, wanted: Option<&[u8]>) -> Result<bool, AllocError> {
     for way in 0..files.crashes() {
         if files.after_crash(way)?.bytes_at("store/a") == wanted {

@@ -9,10 +9,10 @@ use std::alloc::{AllocError, Global};
 use std::process::Abort;
 use store_repair::{Finding, MemoryStore, Outcome, Reads, Reason, Repair};
 
-// What is under the names of some fragments in place of a sample's.
+/// What is under the names of some fragments in place of a sample's.
 type Changes<'a> = &'a [(Place, &'a [u8])];
 
-// A sample's fragment with another first byte.
+/// A sample's fragment with another first byte.
 fn flipped(sample: &Sample, place: Place) -> [u8; 5] {
     let mut bytes = [0; 5];
     for (to, from) in bytes.iter_mut().zip(fragment_of(sample, place)) {
@@ -22,7 +22,7 @@ fn flipped(sample: &Sample, place: Place) -> [u8; 5] {
     bytes
 }
 
-// A store with a sample's fragments but for lost ones and those that are changed.
+/// A store with a sample's fragments but for lost ones and those that are changed.
 fn changed_store(
     alloc: Global,
     sample: &Sample,
@@ -39,7 +39,7 @@ fn changed_store(
     Ok(store)
 }
 
-// Asserts that what is under a sample's names is the sample's, or one of the changes.
+/// Asserts that what is under a sample's names is the sample's, or one of the changes.
 fn assert_known(rt: &impl Abort, store: &MemoryStore, sample: &Sample, changes: Changes<'_>) {
     for (place, bytes) in sample.fragments {
         if let Some(found) = store.fragment(sample.name, *place) {
@@ -49,7 +49,7 @@ fn assert_known(rt: &impl Abort, store: &MemoryStore, sample: &Sample, changes: 
     }
 }
 
-// Whether the bytes are those of a change at a place.
+/// Whether the bytes are those of a change at a place.
 fn is_change(changes: Changes<'_>, place: Place, found: &[u8]) -> bool {
     for (changed, bytes) in changes {
         if *changed == place && found == *bytes {
@@ -59,7 +59,7 @@ fn is_change(changes: Changes<'_>, place: Place, found: &[u8]) -> bool {
     false
 }
 
-// Asserts that a repair of a store with these losses and changes makes no other fragment than the sample's and the changes.
+/// Asserts that a repair of a store with these losses and changes makes no other fragment than the sample's and the changes.
 fn assert_nothing_else(
     rt: &impl Abort,
     alloc: Global,
@@ -74,7 +74,7 @@ fn assert_nothing_else(
     Ok(())
 }
 
-// The same with nothing lost, and with each of some fragments lost.
+/// The same with nothing lost, and with each of some fragments lost.
 fn assert_nothing_else_without_one(
     rt: &impl Abort,
     alloc: Global,
@@ -89,7 +89,7 @@ fn assert_nothing_else_without_one(
     Ok(())
 }
 
-// Which fragments are lost in turn: some of each kind.
+/// Which fragments are lost in turn: some of each kind.
 fn to_be_lost(code: Code) -> &'static [Place] {
     match code {
         Code::Narrow => &[
@@ -105,7 +105,7 @@ fn to_be_lost(code: Code) -> &'static [Place] {
     }
 }
 
-// Two fragments that are exchanged, with one more lost at most, or two that are changed.
+/// Two fragments that are exchanged, with one more lost at most, or two that are changed.
 #[test]
 fn two_damaged_fragments_make_nothing_wrong(rt: HostRuntime) -> Result<(), AllocError> {
     for sample in [narrow(), wide()] {
@@ -119,7 +119,7 @@ fn two_damaged_fragments_make_nothing_wrong(rt: HostRuntime) -> Result<(), Alloc
     Ok(())
 }
 
-// Asserts that two fragments make nothing else, both where they are exchanged and where they are changed.
+/// Asserts that two fragments make nothing else, both where they are exchanged and where they are changed.
 fn assert_pair_makes_nothing_else(
     rt: &impl Abort,
     alloc: Global,
@@ -138,7 +138,7 @@ fn assert_pair_makes_nothing_else(
     assert_nothing_else(rt, alloc, sample, &[], &changed, &changed)
 }
 
-// What x0 and the parities become where x0 becomes 01 23 45 67 89, by an independent computation.
+/// What x0 and the parities become where x0 becomes 01 23 45 67 89, by an independent computation.
 static NEW_NARROW: [(Place, &[u8]); 4] = [
     (Place::X0, b"\x01\x23\x45\x67\x89"),
     (Place::Px, b"\x5b\xc9\x70\xc7\xd7"),
@@ -153,8 +153,8 @@ static NEW_WIDE: [(Place, &[u8]); 4] = [
     (Place::P1, b"\x27\x82\x78\xbb\x4d"),
 ];
 
-// An update that was torn: some of its four fragments are new, the others old, and one at most is lost. Each fragment is then of one
-// generation or the other.
+/// An update that was torn: some of its four fragments are new, the others old, and one at most is lost. Each fragment is then of one
+/// generation or the other.
 #[test]
 fn torn_update_makes_nothing_of_neither_generation(rt: HostRuntime) -> Result<(), AllocError> {
     for (sample, new) in [(narrow(), &NEW_NARROW), (wide(), &NEW_WIDE)] {
@@ -166,7 +166,7 @@ fn torn_update_makes_nothing_of_neither_generation(rt: HostRuntime) -> Result<()
     Ok(())
 }
 
-// The fragments whose bits are set.
+/// The fragments whose bits are set.
 fn written_of<'a>(
     alloc: Global,
     new: &[(Place, &'a [u8]); 4],
@@ -181,7 +181,7 @@ fn written_of<'a>(
     Ok(changes)
 }
 
-// Whether a finding is of no damage, of the damage at a place that is the only suspect, or of just these suspects.
+/// Whether a finding is of no damage, of the damage at a place that is the only suspect, or of just these suspects.
 fn is_expected(finding: &Finding, damaged: Place, expected: PlaceSet) -> bool {
     match &finding.reason {
         Reason::Damaged => finding.place == Some(damaged) && expected.len() == 1,
@@ -191,7 +191,7 @@ fn is_expected(finding: &Finding, damaged: Place, expected: PlaceSet) -> bool {
     }
 }
 
-// Whether a scrub says once that there is damage, and what is expected of it.
+/// Whether a scrub says once that there is damage, and what is expected of it.
 fn is_suspected(outcome: &Outcome, damaged: Place, expected: PlaceSet) -> bool {
     let mut times = 0u8;
     for finding in &outcome.findings {
@@ -205,8 +205,8 @@ fn is_suspected(outcome: &Outcome, damaged: Place, expected: PlaceSet) -> bool {
     times == 1
 }
 
-// Asserts what a scrub says of a damaged fragment of a stripe of which these are lost, and, where fewer than two are, what a repair makes
-// of it: it is replaced if it is named, and else nothing is written.
+/// Asserts what a scrub says of a damaged fragment of a stripe of which these are lost, and, where fewer than two are, what a repair makes
+/// of it: it is replaced if it is named, and else nothing is written.
 fn assert_scrubbed_and_repaired(
     rt: &impl Abort,
     alloc: Global,
@@ -234,7 +234,7 @@ fn assert_scrubbed_and_repaired(
     Ok(())
 }
 
-// Asserts that all of a sample's fragments are there, and one that was damaged is kept.
+/// Asserts that all of a sample's fragments are there, and one that was damaged is kept.
 fn assert_replaced(
     rt: &impl Abort,
     store: &MemoryStore,
@@ -245,8 +245,8 @@ fn assert_replaced(
     assert!(rt; store.kept(sample.name, damaged) == Some(bytes));
 }
 
-// A damaged fragment is named where nothing is lost, since any two stripes differ in four places; else the suspects are those that the
-// ranks of the equations' columns say.
+/// A damaged fragment is named where nothing is lost, since any two stripes differ in four places; else the suspects are those that the
+/// ranks of the equations' columns say.
 #[test]
 fn one_damaged_fragment_is_named_or_suspected(rt: HostRuntime) -> Result<(), AllocError> {
     for sample in [narrow(), wide()] {
@@ -259,7 +259,7 @@ fn one_damaged_fragment_is_named_or_suspected(rt: HostRuntime) -> Result<(), All
     Ok(())
 }
 
-// Asserts the same with one or two more lost.
+/// Asserts the same with one or two more lost.
 fn assert_with_losses(
     rt: &impl Abort,
     alloc: Global,
@@ -280,7 +280,7 @@ fn assert_with_losses(
     Ok(())
 }
 
-// How a stripe is repaired where only one fragment is taken to be damaged.
+/// How a stripe is repaired where only one fragment is taken to be damaged.
 fn by_guess(code: Code) -> Repair {
     Repair {
         code,
@@ -291,7 +291,7 @@ fn by_guess(code: Code) -> Repair {
     }
 }
 
-// Whether a finding says that the fragment at a place was taken for the damaged one.
+/// Whether a finding says that the fragment at a place was taken for the damaged one.
 fn is_guessed(outcome: &Outcome, place: Place) -> bool {
     for finding in &outcome.findings {
         if finding.place == Some(place) && matches!(finding.reason, Reason::TakenForDamaged) {
@@ -301,15 +301,15 @@ fn is_guessed(outcome: &Outcome, place: Place) -> bool {
     false
 }
 
-// Whether px alone was rebuilt, unchecked, by the guess that x2 is damaged.
+/// Whether px alone was rebuilt, unchecked, by the guess that x2 is damaged.
 fn is_by_guess(outcome: &Outcome) -> bool {
     is_guessed(outcome, Place::X2)
         && !outcome.is_checked
         && outcome.rebuilt.as_slice() == [Place::Px].as_slice()
 }
 
-// Asserts that of a stripe with these changes, and without px, x2 is taken for the damaged one: px is rebuilt from the guess, which is
-// unchecked, and x2 stays.
+/// Asserts that of a stripe with these changes, and without px, x2 is taken for the damaged one: px is rebuilt from the guess, which is
+/// unchecked, and x2 stays.
 fn assert_guessed(
     rt: &impl Abort,
     alloc: Global,
@@ -326,12 +326,12 @@ fn assert_guessed(
     Ok(())
 }
 
-// Whether a sample's px is there.
+/// Whether a sample's px is there.
 fn is_px(store: &MemoryStore, sample: &Sample) -> bool {
     store.fragment(sample.name, Place::Px) == Some(fragment_of(sample, Place::Px))
 }
 
-// A guess that is right, and one that is wrong: without px, x0 and x1 that are exchanged look like a damaged x2.
+/// A guess that is right, and one that is wrong: without px, x0 and x1 that are exchanged look like a damaged x2.
 #[test]
 fn what_is_rebuilt_by_a_guess_is_unchecked(rt: HostRuntime) -> Result<(), AllocError> {
     for sample in [narrow(), wide()] {

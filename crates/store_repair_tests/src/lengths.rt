@@ -6,7 +6,7 @@ use std::alloc::{AllocError, Global};
 use std::process::Abort;
 use store_repair::{MemoryStore, Outcome, Reads, Reason, Repair};
 
-// How the stripe is repaired here.
+/// How the stripe is repaired here.
 const REPAIR: Repair = Repair {
     code: Code::Narrow,
     reads: Reads::All,
@@ -15,7 +15,7 @@ const REPAIR: Repair = Repair {
     elsewhere: false,
 };
 
-// Files of a stripe that are cut to a length, or lost, and what a repair says of the stripe's length: how many bytes, or the line.
+/// Files of a stripe that are cut to a length, or lost, and what a repair says of the stripe's length: how many bytes, or the line.
 struct Case {
     cut: &'static [Place],
     to: usize,
@@ -100,7 +100,7 @@ static CASES: [Case; 7] = [
     },
 ];
 
-// A store with the stripe's files as a case has them.
+/// A store with the stripe's files as a case has them.
 fn cut_store(alloc: Global, sample: &Sample, case: &Case) -> Result<MemoryStore, AllocError> {
     let mut store = MemoryStore::new(alloc);
     put_without(&mut store, sample, case.lost)?;
@@ -112,7 +112,7 @@ fn cut_store(alloc: Global, sample: &Sample, case: &Case) -> Result<MemoryStore,
     Ok(store)
 }
 
-// Why the lengths differ, if a finding says so.
+/// Why the lengths differ, if a finding says so.
 fn difference(outcome: &Outcome) -> Option<&Reason> {
     for finding in &outcome.findings {
         if matches!(finding.reason, Reason::LengthsDiffer(_)) {
@@ -122,7 +122,7 @@ fn difference(outcome: &Outcome) -> Option<&Reason> {
     None
 }
 
-// Whether an outcome says of the stripe's length what a case says.
+/// Whether an outcome says of the stripe's length what a case says.
 fn says(alloc: Global, outcome: &Outcome, case: &Case) -> Result<bool, AllocError> {
     match (difference(outcome), case.says) {
         (None, Ok(length)) => Ok(outcome.length == length),
@@ -135,7 +135,7 @@ fn says(alloc: Global, outcome: &Outcome, case: &Case) -> Result<bool, AllocErro
     }
 }
 
-// Whether a finding's line names these groups of fragments.
+/// Whether a finding's line names these groups of fragments.
 fn is_said(alloc: Global, reason: &Reason, groups: &str) -> Result<bool, AllocError> {
     let said = format!(in alloc; "{reason}")?;
     let wanted = format!(in alloc;
@@ -144,8 +144,8 @@ fn is_said(alloc: Global, reason: &Reason, groups: &str) -> Result<bool, AllocEr
     Ok(said.as_str() == wanted.as_str())
 }
 
-// A scrub, a plan and a repair say the same of the length, and the checks decide it and not the files' number. Where they don't, nothing is
-// written; a fragment without bytes is made where all are empty, and isn't checked.
+/// A scrub, a plan and a repair say the same of the length, and the checks decide it and not the files' number. Where they don't, nothing
+/// is written; a fragment without bytes is made where all are empty, and isn't checked.
 #[test]
 fn checks_decide_between_lengths(rt: HostRuntime) -> Result<(), AllocError> {
     for case in &CASES {
@@ -154,7 +154,7 @@ fn checks_decide_between_lengths(rt: HostRuntime) -> Result<(), AllocError> {
     Ok(())
 }
 
-// Asserts that of a case.
+/// Asserts that of a case.
 fn assert_decided(rt: &impl Abort, alloc: Global, case: &Case) -> Result<(), AllocError> {
     let mut store = cut_store(alloc, narrow(), case)?;
     let says_so = says(alloc, &scrub(alloc, &store, narrow())?, case)?;
@@ -167,7 +167,7 @@ fn assert_decided(rt: &impl Abort, alloc: Global, case: &Case) -> Result<(), All
     assert_left(rt, alloc, &store, &outcome, case)
 }
 
-// Asserts what a repair leaves of a case.
+/// Asserts what a repair leaves of a case.
 fn assert_left(
     rt: &impl Abort,
     alloc: Global,
@@ -186,12 +186,12 @@ fn assert_left(
     Ok(())
 }
 
-// Whether what a case has lost was rebuilt, unchecked.
+/// Whether what a case has lost was rebuilt, unchecked.
 fn is_all_empty(outcome: &Outcome, case: &Case) -> bool {
     outcome.rebuilt.as_slice() == case.lost && !outcome.is_checked
 }
 
-// Whether a store has the fragments of another, and none that is kept under a second name.
+/// Whether a store has the fragments of another, and none that is kept under a second name.
 fn is_untouched(store: &MemoryStore, untouched: &MemoryStore) -> bool {
     for place in Place::ALL {
         let found = store.fragment(narrow().name, place);
@@ -204,7 +204,7 @@ fn is_untouched(store: &MemoryStore, untouched: &MemoryStore) -> bool {
     true
 }
 
-// The places at which a repair couldn't mend what a case has cut.
+/// The places at which a repair couldn't mend what a case has cut.
 fn left_of(outcome: &Outcome, case: &Case) -> &'static [Place] {
     if outcome.rebuilt.len() == case.cut.len() {
         return &[];

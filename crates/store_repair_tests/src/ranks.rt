@@ -18,7 +18,7 @@ pub(crate) fn suspects_of(code: Code, lost: &[Place], damaged: Place) -> PlaceSe
     suspects
 }
 
-// Whether damage at a place, and at one more at most, may look like the damage.
+/// Whether damage at a place, and at one more at most, may look like the damage.
 fn is_suspect(code: Code, beside: PlaceSet, damaged: Place, place: Place) -> bool {
     let pair = beside.with(place);
     if may_change(pair, place) {
@@ -30,13 +30,13 @@ fn is_suspect(code: Code, beside: PlaceSet, damaged: Place, place: Place) -> boo
     })
 }
 
-// Whether some stripe differs from another at this place and else at most at others of a set.
+/// Whether some stripe differs from another at this place and else at most at others of a set.
 fn may_change(set: PlaceSet, place: Place) -> bool {
     rank(set, Some(place)) == rank(set, None)
 }
 
-// The rank of the columns at the places of a set but one: one for each group that has any, and at most two more for all others together.
-// For both codes it is so of each set of up to five columns, by Gaussian elimination in `tools/reference.py`'s field.
+/// The rank of the columns at the places of a set but one: one for each group that has any, and at most two more for all others together.
+/// For both codes it is so of each set of up to five columns, by Gaussian elimination in `tools/reference.py`'s field.
 fn rank(set: PlaceSet, but: Option<Place>) -> usize {
     let x = many(set, but, Some(Group::X));
     let y = many(set, but, Some(Group::Y));
@@ -45,7 +45,7 @@ fn rank(set: PlaceSet, but: Option<Place>) -> usize {
     x.min(1) + y.min(1) + others.min(2)
 }
 
-// How many places of a group, or how many globals, are in a set, but one.
+/// How many places of a group, or how many globals, are in a set, but one.
 fn many(set: PlaceSet, but: Option<Place>, group: Option<Group>) -> usize {
     Place::ALL
         .iter()

@@ -8,22 +8,22 @@ use std::alloc::{AllocError, Global};
 use std::process::Abort;
 use store_repair::{MemoryStore, Outcome, Reason};
 
-// Whether these fragments were rebuilt, from so many survivors.
+/// Whether these fragments were rebuilt, from so many survivors.
 fn is_rebuilt(outcome: &Outcome, rebuilt: &[Place], survivors: usize) -> bool {
     outcome.rebuilt.as_slice() == rebuilt && outcome.survivors.len() == survivors
 }
 
-// Whether the short stripe's py is this.
+/// Whether the short stripe's py is this.
 fn is_py(store: &MemoryStore, bytes: &[u8]) -> bool {
     is_there(store, short().name, Place::Py, bytes)
 }
 
-// Whether this is kept of it under its second name.
+/// Whether this is kept of it under its second name.
 fn is_kept(store: &MemoryStore, bytes: Option<&[u8]>) -> bool {
     store.kept(short().name, Place::Py) == bytes
 }
 
-// A store with a stripe but for these fragments.
+/// A store with a stripe but for these fragments.
 fn store_without(
     alloc: Global,
     sample: &Sample,
@@ -34,7 +34,7 @@ fn store_without(
     Ok(store)
 }
 
-// Asserts that the stripe comes back whole where these fragments are lost.
+/// Asserts that the stripe comes back whole where these fragments are lost.
 fn assert_comes_back(
     rt: &impl Abort,
     alloc: Global,
@@ -48,7 +48,7 @@ fn assert_comes_back(
     Ok(())
 }
 
-// Asserts that it does where a place is lost with any two before it.
+/// Asserts that it does where a place is lost with any two before it.
 fn assert_any_come_back(
     rt: &impl Abort,
     alloc: Global,
@@ -63,7 +63,7 @@ fn assert_any_come_back(
     Ok(())
 }
 
-// Each loss of three fragments is one that both codes recover.
+/// Each loss of three fragments is one that both codes recover.
 #[test]
 fn three_lost_fragments_come_back(rt: HostRuntime) -> Result<(), AllocError> {
     for sample in [narrow(), wide()] {
@@ -75,7 +75,7 @@ fn three_lost_fragments_come_back(rt: HostRuntime) -> Result<(), AllocError> {
     Ok(())
 }
 
-// Whether a place was rebuilt from few survivors, whose number for a place of a group and for another are these.
+/// Whether a place was rebuilt from few survivors, whose number for a place of a group and for another are these.
 fn is_from_few(outcome: &Outcome, place: Place, (of_group, of_global): (usize, usize)) -> bool {
     let survivors = match place.group() {
         Some(_) => of_group,
@@ -84,7 +84,7 @@ fn is_from_few(outcome: &Outcome, place: Place, (of_group, of_global): (usize, u
     is_rebuilt(outcome, &[place], survivors) && !outcome.is_checked && outcome.findings.is_empty()
 }
 
-// Asserts that a place that is lost alone is.
+/// Asserts that a place that is lost alone is.
 fn assert_from_few(
     rt: &impl Abort,
     alloc: Global,
@@ -99,8 +99,8 @@ fn assert_from_few(
     Ok(())
 }
 
-// A lost fragment of a group is rebuilt from the others of its group: 3 reads of the (6,2,2) code and 6 of the (12,2,2) code (Huang et al.,
-// section 2). A global parity takes all data fragments, or as many others.
+/// A lost fragment of a group is rebuilt from the others of its group: 3 reads of the (6,2,2) code and 6 of the (12,2,2) code (Huang et
+/// al., section 2). A global parity takes all data fragments, or as many others.
 #[test]
 fn few_survivors_are_read(rt: HostRuntime) -> Result<(), AllocError> {
     for (sample, survivors) in [(narrow(), (3, 6)), (wide(), (6, 12))] {
@@ -111,14 +111,14 @@ fn few_survivors_are_read(rt: HostRuntime) -> Result<(), AllocError> {
     Ok(())
 }
 
-// A stripe without x0, whose x1 has no bytes.
+/// A stripe without x0, whose x1 has no bytes.
 fn store_without_two(alloc: Global) -> Result<MemoryStore, AllocError> {
     let mut store = store_without(alloc, narrow(), &[Place::X0])?;
     store.put(narrow().name, Place::X1, b"")?;
     Ok(store)
 }
 
-// A fragment of another length isn't among the few; where two of a group are lost, a global is read for the second.
+/// A fragment of another length isn't among the few; where two of a group are lost, a global is read for the second.
 #[test]
 fn a_stripe_that_lost_two_is_repaired_from_few_survivors(
     rt: HostRuntime,
@@ -131,7 +131,7 @@ fn a_stripe_that_lost_two_is_repaired_from_few_survivors(
     Ok(())
 }
 
-// Whether there are four findings, each of a fragment that isn't determined.
+/// Whether there are four findings, each of a fragment that isn't determined.
 fn are_four_undetermined(outcome: &Outcome) -> bool {
     for finding in &outcome.findings {
         if !matches!(finding.reason, Reason::Several) {
@@ -141,7 +141,7 @@ fn are_four_undetermined(outcome: &Outcome) -> bool {
     outcome.findings.len() == 4
 }
 
-// What few survivors don't determine isn't determined by all.
+/// What few survivors don't determine isn't determined by all.
 #[test]
 fn few_survivors_leave_what_all_leave(rt: HostRuntime) -> Result<(), AllocError> {
     let lost = [Place::X0, Place::Y0, Place::Y1, Place::Y2, Place::Py];
@@ -156,7 +156,7 @@ fn few_survivors_leave_what_all_leave(rt: HostRuntime) -> Result<(), AllocError>
     Ok(())
 }
 
-// Whether a fragment at a place is noted as damaged.
+/// Whether a fragment at a place is noted as damaged.
 fn is_damaged(outcome: &Outcome, place: Place) -> bool {
     for finding in &outcome.findings {
         if finding.place == Some(place) && matches!(finding.reason, Reason::Damaged) {
@@ -166,20 +166,20 @@ fn is_damaged(outcome: &Outcome, place: Place) -> bool {
     false
 }
 
-// A stripe without x0, whose py is 01 in place of 07.
+/// A stripe without x0, whose py is 01 in place of 07.
 fn damaged_store(alloc: Global) -> Result<MemoryStore, AllocError> {
     let mut store = store_without(alloc, short(), &[Place::X0])?;
     store.put(short().name, Place::Py, b"\x01")?;
     Ok(store)
 }
 
-// Whether py is as it was, or was replaced and is kept under its second name.
+/// Whether py is as it was, or was replaced and is kept under its second name.
 fn is_damaged_or_replaced(store: &MemoryStore) -> bool {
     (is_kept(store, None) && is_py(store, b"\x01"))
         || (is_kept(store, Some(b"\x01")) && is_py(store, b"\x07"))
 }
 
-// Whether py is damaged, and both it and x0 were rebuilt and checked.
+/// Whether py is damaged, and both it and x0 were rebuilt and checked.
 fn is_replaced(outcome: &Outcome) -> bool {
     is_damaged(outcome, Place::Py) && outcome.is_checked && outcome.rebuilt.len() == 2
 }
@@ -198,7 +198,7 @@ fn damaged_fragment_is_replaced_and_kept(rt: HostRuntime) -> Result<(), AllocErr
     Ok(())
 }
 
-// Whether py is damaged, and x0 alone was rebuilt.
+/// Whether py is damaged, and x0 alone was rebuilt.
 fn is_left(outcome: &Outcome) -> bool {
     is_damaged(outcome, Place::Py) && outcome.rebuilt.as_slice() == [Place::X0].as_slice()
 }
@@ -214,7 +214,7 @@ fn damaged_fragment_stays_where_none_is_to_be_replaced(rt: HostRuntime) -> Resul
     Ok(())
 }
 
-// A store of which py was replaced, and is damaged once more.
+/// A store of which py was replaced, and is damaged once more.
 fn damaged_twice(alloc: Global) -> Result<MemoryStore, AllocError> {
     let mut store = damaged_store(alloc)?;
     repair(alloc, &mut store, short(), true)?;
@@ -222,7 +222,7 @@ fn damaged_twice(alloc: Global) -> Result<MemoryStore, AllocError> {
     Ok(store)
 }
 
-// What was replaced before isn't lost: a second one stays where it is.
+/// What was replaced before isn't lost: a second one stays where it is.
 #[test]
 fn second_damaged_fragment_of_a_place_stays(rt: HostRuntime) -> Result<(), AllocError> {
     let mut store = damaged_twice(rt.alloc())?;
@@ -233,10 +233,10 @@ fn second_damaged_fragment_of_a_place_stays(rt: HostRuntime) -> Result<(), Alloc
     Ok(())
 }
 
-// The fragments of group Y.
+/// The fragments of group Y.
 const GROUP: &[Place] = &[Place::Y0, Place::Y1, Place::Y2, Place::Py];
 
-// Asserts that of the short stripe all but these are rebuilt.
+/// Asserts that of the short stripe all but these are rebuilt.
 fn assert_all_but_group(rt: &impl Abort, alloc: Global, lost: &[Place]) -> Result<(), AllocError> {
     let mut store = store_without(alloc, short(), lost)?;
     let outcome = repair(alloc, &mut store, short(), true)?;
@@ -259,7 +259,7 @@ fn has_none_of_group(store: &MemoryStore) -> bool {
     true
 }
 
-// Of all of group Y nothing is determined; x0, where it is lost too, is.
+/// Of all of group Y nothing is determined; x0, where it is lost too, is.
 #[test]
 fn what_is_not_determined_is_left(rt: HostRuntime) -> Result<(), AllocError> {
     let more = [Place::X0, Place::Y0, Place::Y1, Place::Y2, Place::Py];
@@ -267,7 +267,7 @@ fn what_is_not_determined_is_left(rt: HostRuntime) -> Result<(), AllocError> {
     assert_all_but_group(&rt, rt.alloc(), &more)
 }
 
-// Other stripes of the store have losses and damage of their own.
+/// Other stripes of the store have losses and damage of their own.
 #[test]
 fn other_stripes_are_as_they_were(rt: HostRuntime) -> Result<(), AllocError> {
     let mut store = damaged_store(rt.alloc())?;
@@ -279,14 +279,14 @@ fn other_stripes_are_as_they_were(rt: HostRuntime) -> Result<(), AllocError> {
     Ok(())
 }
 
-// Asserts that the two other stripes are as they were.
+/// Asserts that the two other stripes are as they were.
 fn assert_others_there(rt: &impl Abort, store: &MemoryStore) {
     assert_there(rt, store, narrow(), &[Place::X0]);
     assert_there(rt, store, short(), &[Place::X0, Place::Py]);
     assert!(rt; are_others_damaged(store));
 }
 
-// Whether both are without x0, and the short one has its damaged py.
+/// Whether both are without x0, and the short one has its damaged py.
 fn are_others_damaged(store: &MemoryStore) -> bool {
     store.fragment(narrow().name, Place::X0).is_none()
         && store.fragment(short().name, Place::X0).is_none()
@@ -294,10 +294,10 @@ fn are_others_damaged(store: &MemoryStore) -> bool {
         && is_kept(store, None)
 }
 
-// So many bytes are longer than a window.
+/// So many bytes are longer than a window.
 const LONG: usize = 200_001;
 
-// A store with the short stripe, each of whose bytes is repeated so often, but for x1 and p1.
+/// A store with the short stripe, each of whose bytes is repeated so often, but for x1 and p1.
 fn long_store(alloc: Global) -> Result<MemoryStore, AllocError> {
     let mut store = MemoryStore::new(alloc);
     for (place, bytes) in short().fragments {
@@ -309,7 +309,7 @@ fn long_store(alloc: Global) -> Result<MemoryStore, AllocError> {
     Ok(store)
 }
 
-// Whether the short stripe has a fragment of so many bytes of this value.
+/// Whether the short stripe has a fragment of so many bytes of this value.
 fn is_long(store: &MemoryStore, place: Place, byte: u8) -> bool {
     match store.fragment(short().name, place) {
         Some(bytes) => bytes.len() == LONG && has_only(bytes, byte),
@@ -326,7 +326,7 @@ fn has_only(bytes: &[u8], byte: u8) -> bool {
     true
 }
 
-// Fragments that are longer than a window. At each position they are those of the short stripe.
+/// Fragments that are longer than a window. At each position they are those of the short stripe.
 #[test]
 fn long_fragments_come_back(rt: HostRuntime) -> Result<(), AllocError> {
     let mut store = long_store(rt.alloc())?;
@@ -337,7 +337,7 @@ fn long_fragments_come_back(rt: HostRuntime) -> Result<(), AllocError> {
     Ok(())
 }
 
-// Asserts of a store whose repair ended so that each name is as it was or rebuilt.
+/// Asserts of a store whose repair ended so that each name is as it was or rebuilt.
 fn assert_as_it_was_or_rebuilt(rt: &impl Abort, store: &MemoryStore, is_repaired: bool) {
     assert_there(rt, store, short(), &[Place::X0, Place::Py]);
     assert!(rt;
@@ -348,7 +348,7 @@ fn assert_as_it_was_or_rebuilt(rt: &impl Abort, store: &MemoryStore, is_repaired
     assert!(rt; !is_repaired || !is_kept(store, None), "py is not replaced");
 }
 
-// Whether x0 was rebuilt, or is absent where the repair isn't done.
+/// Whether x0 was rebuilt, or is absent where the repair isn't done.
 fn is_x0_rebuilt(store: &MemoryStore, is_repaired: bool) -> bool {
     match store.fragment(short().name, Place::X0) {
         Some(bytes) => bytes == b"\x01".as_slice(),
@@ -356,7 +356,7 @@ fn is_x0_rebuilt(store: &MemoryStore, is_repaired: bool) -> bool {
     }
 }
 
-// In a run that refuses an allocation this ends with the refusal, and then each name is as it was or rebuilt.
+/// In a run that refuses an allocation this ends with the refusal, and then each name is as it was or rebuilt.
 #[test]
 fn each_name_is_as_it_was_or_rebuilt(rt: HostRuntime) -> Result<(), AllocError> {
     let mut store = damaged_store(rt.alloc())?;

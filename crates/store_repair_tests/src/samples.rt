@@ -164,7 +164,7 @@ pub(crate) fn scrub(
     scrub_stripe(alloc, store, sample.code, &stripe_of(store, sample))
 }
 
-// What a store has under a stripe's names.
+/// What a store has under a stripe's names.
 fn stripe_of(store: &MemoryStore, sample: &Sample) -> Stripe<'static> {
     let mut files = StripeFiles::new();
     for place in Place::ALL {

@@ -22,7 +22,7 @@ fn put_is_found(rt: HostRuntime) -> Result<(), AllocError> {
     Ok(())
 }
 
-// Asserts what a store has of a stripe at a place.
+/// Asserts what a store has of a stripe at a place.
 fn assert_has(
     rt: &impl Abort,
     store: &MemoryStore,
@@ -36,7 +36,7 @@ fn assert_has(
     );
 }
 
-// Why a fragment isn't opened, if it isn't.
+/// Why a fragment isn't opened, if it isn't.
 fn refusal(store: &MemoryStore, place: Place, length: usize) -> Option<ErrorKind> {
     match store.open("a", place, length) {
         Ok(_) => None,
@@ -44,7 +44,7 @@ fn refusal(store: &MemoryStore, place: Place, length: usize) -> Option<ErrorKind
     }
 }
 
-// Why three bytes of a fragment from an index on aren't read, if they aren't; where they are, whether they are those.
+/// Why three bytes of a fragment from an index on aren't read, if they aren't; where they are, whether they are those.
 fn read<F: Fragment>(fragment: &F, from: usize, wanted: &[u8]) -> Result<bool, ErrorKind> {
     let mut bytes = [0; 3];
     match fragment.read_at(from, &mut bytes) {
@@ -92,7 +92,7 @@ fn new_fragment_gets_its_name(rt: HostRuntime) -> Result<(), io::Error> {
     Ok(())
 }
 
-// Replaces a stripe's x0 by a fragment without bytes.
+/// Replaces a stripe's x0 by a fragment without bytes.
 fn replaced(store: &mut MemoryStore) -> Result<Placed, io::Error> {
     let fragment = store.create("a", Place::X0)?;
     store.replace(fragment, "a", Place::X0)

@@ -81,7 +81,7 @@ pub fn file_line(alloc: Global, file: &ListedFile<'_>, form: Rows) -> Result<Str
     }
 }
 
-// A number of bytes, or what is written where it isn't known.
+/// A number of bytes, or what is written where it isn't known.
 fn bytes_text(alloc: Global, bytes: Option<u64>, unknown: &str) -> Result<String, AllocError> {
     match bytes {
         Some(bytes) => format!(in alloc; "{bytes}"),

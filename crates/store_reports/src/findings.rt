@@ -23,7 +23,7 @@ pub(crate) fn file_of(
     fragment_name(alloc, &site.pattern, site.code, stripe.name, place)
 }
 
-// The line of a finding.
+/// The line of a finding.
 fn line_of(
     alloc: Global,
     site: &Site<'_>,

@@ -75,12 +75,12 @@ pub fn without_repeated(alloc: Global, plan: Outcome, from: usize) -> Result<Out
     })
 }
 
-// Whether something is said of the fragment that a finding is of.
+/// Whether something is said of the fragment that a finding is of.
 fn is_said(findings: &[Finding], finding: &Finding) -> bool {
     finding.place.is_some() && findings.iter().any(|other| other.place == finding.place)
 }
 
-// Whether a repair leaves what is under the name of a fragment that it could rebuild.
+/// Whether a repair leaves what is under the name of a fragment that it could rebuild.
 fn is_left(repair: &Repair, found: Found, is_checked: bool) -> bool {
     match found {
         Found::Absent | Found::Dangling => false,
@@ -89,7 +89,7 @@ fn is_left(repair: &Repair, found: Found, is_checked: bool) -> bool {
     }
 }
 
-// Whether a finding says that the fragment at a place differs from the checksums, to which the store then holds what replaces it.
+/// Whether a finding says that the fragment at a place differs from the checksums, to which the store then holds what replaces it.
 fn differs(findings: &[Finding], place: Place) -> bool {
     findings.iter().any(|finding| finding.place == Some(place)
         && matches!(finding.reason, Reason::Differs))

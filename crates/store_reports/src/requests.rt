@@ -46,7 +46,7 @@ pub fn request_lines(
     Ok(Some(lines))
 }
 
-// What the requests for the lost fragments of a stripe have in common.
+/// What the requests for the lost fragments of a stripe have in common.
 #[derive(Clone, Copy)]
 struct Wanted<'a> {
     code: Code,
@@ -56,7 +56,7 @@ struct Wanted<'a> {
 }
 
 impl<'a> Wanted<'a> {
-    // The request for a lost fragment, as an object.
+    /// The request for a lost fragment, as an object.
     fn object(&self, alloc: Global, target: Place) -> Result<String, AllocError> {
         let stripe = quoted(alloc, self.stripe)?;
         let target = target.name();
@@ -72,7 +72,7 @@ impl<'a> Wanted<'a> {
         )
     }
 
-    // The request for a lost fragment, as a record of a list.
+    /// The request for a lost fragment, as a record of a list.
     fn line(&self, alloc: Global, target: Place) -> Result<String, AllocError> {
         let stripe = self.stripe;
         let target = target.name();
@@ -86,7 +86,7 @@ impl<'a> Wanted<'a> {
     }
 }
 
-// The names of the places of a set, with a text between two.
+/// The names of the places of a set, with a text between two.
 fn names_of(
     alloc: Global,
     code: Code,
@@ -104,7 +104,7 @@ fn names_of(
     Ok(names)
 }
 
-// Whether a list takes a stripe of this name and length.
+/// Whether a list takes a stripe of this name and length.
 fn can_be_asked(stripe: &str, length: u64) -> bool {
     length > 0 && length <= MOST_BYTES && is_stripe_name(stripe)
 }

@@ -7,7 +7,7 @@ use csv::WriterBuilder;
 use serde_json::Value;
 use std::alloc::{AllocError, Global};
 use std::io::{self, ErrorKind};
-use store_faults::Descriptions;
+use store_faults::{Descriptions, REPORT_HEADER, ROW_BEGIN};
 use store_folder::Alone;
 use store_repair::Outcome;
 
@@ -20,7 +20,7 @@ pub enum Rows {
     Json,
 }
 
-// A row: the stripe, the place if it is of a fragment, what became of it, and a detail.
+/// A row: the stripe, the place if it is of a fragment, what became of it, and a detail.
 #[derive(Drop)]
 struct Row<'a> {
     stripe: &'a str,
@@ -33,7 +33,7 @@ struct Row<'a> {
 pub fn rows_of(alloc: Global, results: &Results<'_>, rows: Rows) -> io::Result<String> {
     let mut text = String::new(alloc);
     if rows == Rows::Csv {
-        text.push_str("stripe,place,outcome,detail\n")?;
+        text.push_str(REPORT_HEADER)?;
     }
     for done in results.all {
         if let Some(stripe) = results.stripes.get(done.index) {
@@ -74,7 +74,7 @@ pub fn add_alone(alloc: Global, alone: &[Alone], rows: Rows, text: &mut String) 
     Ok(())
 }
 
-// Adds the rows of a stripe's fragments.
+/// Adds the rows of a stripe's fragments.
 fn add_rows(
     alloc: Global,
     source: RowSource<'_>,
@@ -114,7 +114,7 @@ fn add_rows(
     Ok(())
 }
 
-// Adds the rows of a stripe's descriptions.
+/// Adds the rows of a stripe's descriptions.
 fn add_descriptions(
     alloc: Global,
     source: RowSource<'_>,
@@ -151,7 +151,7 @@ fn add_row(alloc: Global, row: &Row<'_>, rows: Rows, text: &mut String) -> io::R
     }
 }
 
-// Adds a row's values between commas.
+/// Adds a row's values between commas.
 fn add_values(alloc: Global, row: &Row<'_>, text: &mut String) -> io::Result<()> {
     let mut values = Vec::new(alloc);
     values.push(row.stripe.as_bytes())?;
@@ -167,7 +167,7 @@ fn add_values(alloc: Global, row: &Row<'_>, text: &mut String) -> io::Result<()>
     }
 }
 
-// Values between commas. Only memory can be refused.
+/// Values between commas. Only memory can be refused.
 fn values_text(alloc: Global, values: &[&[u8]]) -> Result<Vec<u8>, csv::Error> {
     let mut writer = WriterBuilder::new().from_writer(Vec::new(alloc));
     writer.write_fields(values)?;
@@ -177,14 +177,14 @@ fn values_text(alloc: Global, values: &[&[u8]]) -> Result<Vec<u8>, csv::Error> {
     }
 }
 
-// Adds a row as an object.
+/// Adds a row as an object.
 fn add_object(alloc: Global, row: &Row<'_>, text: &mut String) -> io::Result<()> {
     let stripe = quoted(alloc, row.stripe)?;
     let place = quoted(alloc, row.place)?;
     let outcome = quoted(alloc, row.outcome)?;
     let detail = quoted(alloc, row.detail.as_str())?;
     let line = format!(in alloc;
-        "{{\"stripe\":{stripe},\"place\":{place},\"outcome\":{outcome},\"detail\":{detail}}}\n"
+        "{ROW_BEGIN}{stripe},\"place\":{place},\"outcome\":{outcome},\"detail\":{detail}}}\n"
     )?;
     text.push_str(line.as_str())?;
     Ok(())

@@ -14,7 +14,7 @@ const MOST_NAMES: usize = 3;
 /// Units, each 1,024 times the one before it; the first is 1,024 bytes.
 const UNITS: [&str; 4] = ["KiB", "MiB", "GiB", "TiB"];
 
-// The first names of some fragments.
+/// The first names of some fragments.
 #[derive(Drop)]
 struct Names {
     text: String,
@@ -75,7 +75,7 @@ pub fn repaired(alloc: Global, results: &Results<'_>) -> Result<String, AllocErr
     )
 }
 
-// Adds the names of what no check covers of what was rebuilt, and of what is damaged.
+/// Adds the names of what no check covers of what was rebuilt, and of what is damaged.
 fn add_names(
     alloc: Global,
     results: &Results<'_>,
@@ -99,7 +99,7 @@ fn add_names(
     Ok(())
 }
 
-// What is said of what would be replaced if that were asked for, if there is anything.
+/// What is said of what would be replaced if that were asked for, if there is anything.
 fn replaceable_text(alloc: Global, count: u64, what: &str) -> Result<String, AllocError> {
     if count == 0 {
         return Ok(String::new(alloc));
@@ -107,7 +107,7 @@ fn replaceable_text(alloc: Global, count: u64, what: &str) -> Result<String, All
     format!(in alloc; "{what}{count}")
 }
 
-// What is said of copies of descriptions, if there are any.
+/// What is said of copies of descriptions, if there are any.
 fn described_text(alloc: Global, count: u64, what: &str) -> Result<String, AllocError> {
     if count == 0 {
         return Ok(String::new(alloc));
@@ -116,15 +116,15 @@ fn described_text(alloc: Global, count: u64, what: &str) -> Result<String, Alloc
     format!(in alloc; "; {copies} {what}")
 }
 
-// The sizes of the stripes that a repair would work on.
+/// The sizes of the stripes that a repair would work on.
 #[derive(Clone, Copy)]
 struct Sizes {
-    // How many fragments are lost, and in how many stripes.
+    /// How many fragments are lost, and in how many stripes.
     lost: u64,
     lossy: u64,
-    // The bytes of the survivors that would be read.
+    /// The bytes of the survivors that would be read.
     read: u64,
-    // The lengths of the shortest and the longest fragments.
+    /// The lengths of the shortest and the longest fragments.
     least: u64,
     most: u64,
 }
@@ -235,13 +235,13 @@ pub fn removed(alloc: Global, removed: u64, left: u64) -> Result<String, AllocEr
     format!(in alloc; "removed {removed}; not removed: {left}")
 }
 
-// A count of things.
+/// A count of things.
 fn counted(alloc: Global, count: u64, thing: &str) -> Result<String, AllocError> {
     let ending = if count == 1 { "" } else { "s" };
     format!(in alloc; "{count} {thing}{ending}")
 }
 
-// The lengths of fragments, from the least to the most.
+/// The lengths of fragments, from the least to the most.
 fn lengths_of(alloc: Global, least: u64, most: u64) -> Result<String, AllocError> {
     if least >= most {
         return size_of(alloc, most);
@@ -251,7 +251,7 @@ fn lengths_of(alloc: Global, least: u64, most: u64) -> Result<String, AllocError
     format!(in alloc; "{least} to {most}")
 }
 
-// So many bytes, in the greatest unit that they fill, with tenths where they don't fill whole ones.
+/// So many bytes, in the greatest unit that they fill, with tenths where they don't fill whole ones.
 fn size_of(alloc: Global, bytes: u64) -> Result<String, AllocError> {
     let mut unit = 1u64;
     let mut name = if bytes == 1 { "byte" } else { "bytes" };

@@ -96,8 +96,8 @@ pub(crate) fn why_unchecked(outcome: &Outcome) -> &'static str {
     }
 }
 
-// Whether a fragment is left that would be replaced if that were asked for: it is damaged or has another length, a check covers what would
-// replace it, and nothing else is said of it.
+/// Whether a fragment is left that would be replaced if that were asked for: it is damaged or has another length, a check covers what would
+/// replace it, and nothing else is said of it.
 fn is_replaceable(code: Code, outcome: &Outcome, finding: &Finding) -> bool {
     let Some(place) = finding.place else {
         return false;
@@ -114,7 +114,7 @@ fn is_replaceable(code: Code, outcome: &Outcome, finding: &Finding) -> bool {
 }
 
 impl Totals {
-    // Counts what became of a stripe's fragments.
+    /// Counts what became of a stripe's fragments.
     fn add(&mut self, code: Code, outcome: &Outcome) {
         let rebuilt = outcome.rebuilt.len() as u64;
         let bytes = rebuilt.saturating_mul(outcome.length as u64);
@@ -134,7 +134,7 @@ impl Totals {
         }
     }
 
-    // Counts what became of a stripe's descriptions.
+    /// Counts what became of a stripe's descriptions.
     fn add_descriptions(&mut self, descriptions: &Descriptions) {
         let made = descriptions.made.len() as u64;
         let left = descriptions.findings.len() as u64;

@@ -7,8 +7,8 @@ use std::process::Abort;
 use store_faults::{Copies, CopyFinding, CopyState, FoundCopy};
 use store_folder::Described;
 
-// What copies say, as digits for different descriptions whose digests have that byte, `-` where nothing is; the byte of the digest that the
-// store's sums list; which description is believed; and whether a line says that none is.
+/// What copies say, as digits for different descriptions whose digests have that byte, `-` where nothing is; the byte of the digest that
+/// the store's sums list; which description is believed; and whether a line says that none is.
 const COPIES: [(&str, Option<u8>, Option<u64>, bool); 8] = [
     ("111", None, Some(1), false),
     ("112", None, Some(1), false),
@@ -20,7 +20,7 @@ const COPIES: [(&str, Option<u8>, Option<u64>, bool); 8] = [
     ("1122", None, None, true),
 ];
 
-// Whether a description of this length is believed, or none.
+/// Whether a description of this length is believed, or none.
 fn is_believed(copies: &Copies, length: Option<u64>) -> bool {
     match copies.believed() {
         Some(described) => length == Some(described.length),
@@ -28,7 +28,7 @@ fn is_believed(copies: &Copies, length: Option<u64>) -> bool {
     }
 }
 
-// Asserts that all of so many findings of a stripe have this line.
+/// Asserts that all of so many findings of a stripe have this line.
 fn assert_findings(
     rt: &impl Abort,
     alloc: Global,
@@ -42,7 +42,7 @@ fn assert_findings(
     Ok(())
 }
 
-// Asserts of copies which is believed, and what is found.
+/// Asserts of copies which is believed, and what is found.
 fn assert_believed(
     rt: &impl Abort,
     alloc: Global,
@@ -71,7 +71,7 @@ fn most_copies_or_the_sums_are_believed(rt: HostRuntime) -> io::Result<()> {
     Ok(())
 }
 
-// What a copy says, by its letter.
+/// What a copy says, by its letter.
 fn state_of(letter: char) -> CopyState {
     match letter.to_digit(10) {
         Some(digit) => {

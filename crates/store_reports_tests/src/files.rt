@@ -4,7 +4,7 @@ use lrc_code::Code;
 use std::io;
 use store_reports::{FileState, ListedFile, Rows, file_line, files_listed, removed, verified};
 
-// A file, its line and its object.
+/// A file, its line and its object.
 const FILES: [(ListedFile<'static>, &str, &str); 3] = [
     (
         ListedFile {

@@ -8,7 +8,7 @@ use store_faults::{CopyFinding, CopyReason, DEVICE, device, escaped, words_of};
 use store_repair::{Found, Stripe, StripeFiles};
 use store_reports::{Rows, header_of, request_lines};
 
-// Texts, and how `ls -b` of the GNU coreutils writes their control characters.
+/// Texts, and how `ls -b` of the GNU coreutils writes their control characters.
 const ESCAPES: [(&str, &str); 7] = [
     ("note.x1", "note.x1"),
     ("a\nb\rc\td", "a\\nb\\rc\\td"),
@@ -27,26 +27,26 @@ fn control_characters_are_escaped(rt: HostRuntime) -> io::Result<()> {
     Ok(())
 }
 
-// Numbers of errors, and what strerror of the C library says of them.
+/// Numbers of errors, and what strerror of the C library says of them.
 const ERRORS: [(i32, &str); 3] = [
     (2, "No such file or directory"),
     (5, "Input/output error"),
     (28, "No space left on device"),
 ];
 
-// Asserts that a text is this front and then these words.
+/// Asserts that a text is this front and then these words.
 fn assert_ends(rt: &impl Abort, text: &str, front: &str, words: &str) {
     assert!(rt; text.strip_suffix(words) == Some(front), "{text}");
 }
 
-// What is said of a copy that can't be read for an error.
+/// What is said of a copy that can't be read for an error.
 fn unread_text(alloc: Global, error: io::Error) -> Result<String, AllocError> {
     let name = String::from_str(alloc, "a (os error 2)")?;
     let reason = CopyReason::Unread(error);
     CopyFinding { name, reason }.text(alloc)
 }
 
-// Asserts what is said of a device's fault with this number, and its status.
+/// Asserts what is said of a device's fault with this number, and its status.
 fn assert_device(
     rt: &impl Abort,
     alloc: Global,
@@ -59,7 +59,7 @@ fn assert_device(
     Ok(())
 }
 
-// Asserts that an error of this number is said in these words alone, of a copy too.
+/// Asserts that an error of this number is said in these words alone, of a copy too.
 fn assert_said(rt: &impl Abort, alloc: Global, number: i32, words: &str) -> Result<(), AllocError> {
     let error = io::Error::from_raw_os_error(number);
     assert_text(rt, words_of(alloc, &error)?.as_str(), words);
@@ -80,7 +80,7 @@ fn errors_are_said_without_their_numbers(rt: HostRuntime) -> Result<(), AllocErr
     Ok(())
 }
 
-// A stripe's name, the length of its fragments in bytes, and the request for its y0 in a list, where x2 and y0 are lost.
+/// A stripe's name, the length of its fragments in bytes, and the request for its y0 in a list, where x2 and y0 are lost.
 const REQUESTS: [(&str, u64, Code, Option<&str>); 6] = [
     (
         "note",
@@ -103,7 +103,7 @@ const REQUESTS: [(&str, u64, Code, Option<&str>); 6] = [
 const OBJECT: &str = "{\"order\":\"rebuild\",\"stripe\":\"a \\\"b\",\"target\":\"y0\",\"length\":4,\
      \"survivors\":[\"x0\",\"x1\",\"y1\",\"y2\",\"px\",\"py\",\"p0\",\"p1\"],\"code\":\"6-2-2\"}\n";
 
-// Whether the request for y0 of a stripe is this, or there is none.
+/// Whether the request for y0 of a stripe is this, or there is none.
 fn is_request(
     alloc: Global,
     (name, length, code, line): (&str, u64, Code, Option<&str>),
@@ -135,7 +135,7 @@ fn requests_have_the_form_of_lists(rt: HostRuntime) {
     );
 }
 
-// A stripe with all fragments but x2 and y0, each of so many bytes.
+/// A stripe with all fragments but x2 and y0, each of so many bytes.
 fn without_two<'a>(name: &'a str, length: u64) -> Stripe<'a> {
     let mut files = StripeFiles {
         found: [Found::File { length }; 16],

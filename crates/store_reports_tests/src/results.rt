@@ -53,8 +53,8 @@ const REPAIRED: &str =
 const SCRUBBED: &str =
     "scrubbed 1 stripe: 1 damaged, 1 lost or contradictory, 1 stripe without any check";
 
-// Of a stripe x0 and p1 were rebuilt, each of 1,536 bytes and without a check; x0 was damaged; one copy of its description was made and one
-// is lost. A file is alone.
+/// Of a stripe x0 and p1 were rebuilt, each of 1,536 bytes and without a check; x0 was damaged; one copy of its description was made and
+/// one is lost. A file is alone.
 #[test]
 fn what_became_of_a_stripe_is_said(rt: HostRuntime) -> io::Result<()> {
     let alloc = rt.alloc();
@@ -83,7 +83,7 @@ fn what_became_of_a_stripe_is_said(rt: HostRuntime) -> io::Result<()> {
     Ok(())
 }
 
-// Asserts the rows and the summaries.
+/// Asserts the rows and the summaries.
 fn assert_texts(rt: &impl Abort, alloc: Global, results: &Results<'_>) -> io::Result<()> {
     assert_text(rt, rows_of(alloc, results, Rows::Csv)?.as_str(), CSV);
     let objects = rows_of(alloc, results, Rows::Json)?;
@@ -93,7 +93,7 @@ fn assert_texts(rt: &impl Abort, alloc: Global, results: &Results<'_>) -> io::Re
     Ok(())
 }
 
-// Whether this is counted, and these are the statuses.
+/// Whether this is counted, and these are the statuses.
 fn are_counted(results: &Results<'_>) -> bool {
     let totals = &results.totals;
     totals.rebuilt == 2
@@ -107,7 +107,7 @@ fn are_counted(results: &Results<'_>) -> bool {
         && status_of(totals, false) == 3
 }
 
-// Whether these are the lines.
+/// Whether these are the lines.
 fn are_lines(lines: &[String], wanted: &[&str]) -> bool {
     for (line, text) in lines.iter().zip(wanted) {
         if line.as_str() != *text {
@@ -117,7 +117,7 @@ fn are_lines(lines: &[String], wanted: &[&str]) -> bool {
     lines.len() == wanted.len()
 }
 
-// Asserts the lines.
+/// Asserts the lines.
 fn assert_lines(rt: &impl Abort, alloc: Global, results: &Results<'_>) -> Result<(), AllocError> {
     for done in results.all {
         let lines = finding_lines(alloc, results, done)?;
@@ -130,7 +130,7 @@ fn assert_lines(rt: &impl Abort, alloc: Global, results: &Results<'_>) -> Result
     Ok(())
 }
 
-// What became of the stripe's fragments.
+/// What became of the stripe's fragments.
 fn outcome_of(alloc: Global) -> Result<Outcome, AllocError> {
     let mut findings = Vec::new(alloc);
     findings.push(Finding {
@@ -148,7 +148,7 @@ fn outcome_of(alloc: Global) -> Result<Outcome, AllocError> {
     Ok(outcome)
 }
 
-// What became of its descriptions.
+/// What became of its descriptions.
 fn descriptions_of(alloc: Global) -> Result<Descriptions, AllocError> {
     let mut descriptions = Descriptions {
         replaceable: 0,
@@ -166,7 +166,7 @@ fn descriptions_of(alloc: Global) -> Result<Descriptions, AllocError> {
     Ok(descriptions)
 }
 
-// What became of the stripe.
+/// What became of the stripe.
 fn done_of(alloc: Global) -> Result<Done, AllocError> {
     let outcome = outcome_of(alloc)?;
     Ok(Done {
@@ -176,8 +176,8 @@ fn done_of(alloc: Global) -> Result<Done, AllocError> {
     })
 }
 
-// What is under the name of the lost x0, whether the survivors are checked, whether damaged ones are replaced, whether fragments go
-// elsewhere, and whether x0 is rebuilt.
+/// What is under the name of the lost x0, whether the survivors are checked, whether damaged ones are replaced, whether fragments go
+/// elsewhere, and whether x0 is rebuilt.
 const PLANS: [(Found, bool, bool, bool, bool); 8] = [
     (Found::Absent, false, false, false, true),
     (Found::Dangling, false, false, false, true),
@@ -192,7 +192,7 @@ const PLANS: [(Found, bool, bool, bool, bool); 8] = [
 const PLANNED: &str =
     "1 stripe of 6-2-2, 2 KiB; 1 lost in 1; 1 can be rebuilt (1 unchecked), 0 can't; reads 4 KiB, writes 2 KiB";
 
-// A plan to rebuild x0.
+/// A plan to rebuild x0.
 fn plan_of(alloc: Global, is_checked: bool) -> Result<Outcome, AllocError> {
     let mut plan = Outcome::of(alloc, Vec::new(alloc));
     plan.length = 2048;
@@ -206,7 +206,7 @@ fn plan_of(alloc: Global, is_checked: bool) -> Result<Outcome, AllocError> {
     Ok(plan)
 }
 
-// A stripe with this under the name of x0.
+/// A stripe with this under the name of x0.
 fn stripe_with(under: Found) -> Stripe<'static> {
     let mut files = StripeFiles {
         found: [Found::File { length: 2048 }; 16],
@@ -215,12 +215,12 @@ fn stripe_with(under: Found) -> Stripe<'static> {
     Stripe { name: "s", files }
 }
 
-// Whether a plan rebuilds x0, or else says why not.
+/// Whether a plan rebuilds x0, or else says why not.
 fn is_planned(plan: &Outcome, is_rebuilt: bool) -> bool {
     plan.rebuilt.len() == usize::from(is_rebuilt) && plan.findings.len() == usize::from(!is_rebuilt)
 }
 
-// Asserts what is left of a plan to rebuild x0.
+/// Asserts what is left of a plan to rebuild x0.
 fn assert_plan(
     rt: &impl Abort,
     alloc: Global,
@@ -250,7 +250,7 @@ fn a_plan_says_what_would_be_done(rt: HostRuntime) -> Result<(), AllocError> {
     Ok(())
 }
 
-// Asserts what is said of a stripe whose x0 would be rebuilt, and the statuses of that.
+/// Asserts what is said of a stripe whose x0 would be rebuilt, and the statuses of that.
 fn assert_planned(
     rt: &impl Abort,
     alloc: Global,
@@ -275,7 +275,7 @@ fn assert_planned(
     Ok(())
 }
 
-// What is said of x0, x0 again, x1 and a stripe twice: what isn't said of the same fragment before stays.
+/// What is said of x0, x0 again, x1 and a stripe twice: what isn't said of the same fragment before stays.
 #[test]
 fn what_is_said_of_a_fragment_first_stays(rt: HostRuntime) -> Result<(), AllocError> {
     let outcome = Outcome::of(rt.alloc(), repeated(rt.alloc())?);
@@ -311,7 +311,7 @@ fn are_first(findings: &[Finding]) -> bool {
     }
 }
 
-// A damaged fragment, beside which maybe one is kept that was replaced.
+/// A damaged fragment, beside which maybe one is kept that was replaced.
 fn damaged(alloc: Global, is_checked: bool, is_kept: bool) -> Result<Done, AllocError> {
     let mut findings = Vec::new(alloc);
     let place = Some(Place::P0);
@@ -330,7 +330,7 @@ fn damaged(alloc: Global, is_checked: bool, is_kept: bool) -> Result<Done, Alloc
     })
 }
 
-// It is left for --replace-damaged alone, unless something else is said of it or no check covers it.
+/// It is left for --replace-damaged alone, unless something else is said of it or no check covers it.
 #[test]
 fn what_replacing_would_mend_is_counted(rt: HostRuntime) -> Result<(), AllocError> {
     for (is_checked, is_kept, count) in [(true, false, 1), (true, true, 0), (false, false, 0)] {
@@ -341,7 +341,7 @@ fn what_replacing_would_mend_is_counted(rt: HostRuntime) -> Result<(), AllocErro
     Ok(())
 }
 
-// Whether of what became of a stripe so many are counted and said that replacing would mend.
+/// Whether of what became of a stripe so many are counted and said that replacing would mend.
 fn is_mended(alloc: Global, all: &[Done], count: u64) -> Result<bool, AllocError> {
     let files = StripeFiles::new();
     let stripes = [Stripe { name: "s", files }];

@@ -8,7 +8,7 @@ use farm_lanes::{Gate, GateError, Right, Seat};
 use farm_threads::{FeederSpace, Lists, feeder_space_for};
 use std::alloc::{AllocError, Global};
 
-// A new gate, with one seat and one right for each of so many feeds. Within the limits of gates only memory can be refused.
+/// A new gate, with one seat and one right for each of so many feeds. Within the limits of gates only memory can be refused.
 fn open_gate<'a>(alloc: Global, feeds: usize) -> Result<(Gate, RackSeats<'a>), AllocError>
     requires count { IsSeatCount feeds × IsRightCount feeds }
     ensures { IfOk result (λ r. IsNewGate feeds r.0 r.1) }

@@ -10,7 +10,7 @@ use farm_lanes::{Lane, LaneError, PutEnd, TakeEnd};
 use farm_threads::{Job, Reply, WorkerEnds};
 use std::alloc::{AllocError, Global};
 
-// The ends of a new lane. Within the limits of lanes only memory can be refused.
+/// The ends of a new lane. Within the limits of lanes only memory can be refused.
 fn open_lane<T: Send + Drop>(
     alloc: Global,
     capacity: usize,

@@ -32,7 +32,7 @@ pub(crate) struct Space<'a> {
         × (ends.racks ≤ vec_capacity feeding) },
 }
 
-// Empty lists with room for the ends of so many racks and workers.
+/// Empty lists with room for the ends of so many racks and workers.
 fn end_space_for<'a>(
     alloc: Global,
     racks: usize,

@@ -41,8 +41,8 @@ pub(crate) struct Starts<'a> {
     pub taker: Option<TakeEnd<Job<'a>>>,
 }
 
-// Starts the feeders rack by rack. After a refusal no further one is started, and the ends of the others are ended here: the workers
-// take their marks. Gives nothing if none was refused, else the threads of the rack in which one was.
+/// Starts the feeders rack by rack. After a refusal no further one is started, and the ends of the others are ended here: the workers
+/// take their marks. Gives nothing if none was refused, else the threads of the rack in which one was.
 fn start_racks<'s, 'a: 's, E, R: Threads + Wait + Sync, P: Pause>(
     shared: &'s Shared<'s, R, P>,
     scope: &Scope<'s, E>,
@@ -80,7 +80,7 @@ fn start_racks<'s, 'a: 's, E, R: Threads + Wait + Sync, P: Pause>(
     left
 }
 
-// Ends the put ends of the feeders of racks, as `end_feeders` does.
+/// Ends the put ends of the feeders of racks, as `end_feeders` does.
 fn end_racks<'a, R: Wait>(rt: &R, racks: Vec<RackRoom<'a>>, taker: &mut Option<TakeEnd<Job<'a>>>) {
     for rack in racks {
         let RackRoom { feeders, .. } = rack;
@@ -121,7 +121,7 @@ pub(crate) fn start_all<'s, 'a: 's, E, R: Threads + Wait + Sync, P: Pause>(
     }
 }
 
-// Joins the feeders rack by rack, and puts their ends in order. Says whether each has fed.
+/// Joins the feeders rack by rack, and puts their ends in order. Says whether each has fed.
 fn join_racks<'a, R: Threads>(
     rt: &R,
     racks: Vec<RackFeeders<'a>>,
@@ -151,7 +151,7 @@ fn join_racks<'a, R: Threads>(
     all
 }
 
-// Joins the feeders of the rack in which a thread was refused.
+/// Joins the feeders of the rack in which a thread was refused.
 fn join_left<'a, R: Threads>(rt: &R, left: Option<Vec<FeederHandle<'a>>>) {
     if let Some(handles) = left {
         for handle in handles {
@@ -160,7 +160,7 @@ fn join_left<'a, R: Threads>(rt: &R, left: Option<Vec<FeederHandle<'a>>>) {
     }
 }
 
-// Puts so many jobs that say to stop, and ends.
+/// Puts so many jobs that say to stop, and ends.
 fn put_stops<'a, R: Wait>(rt: &R, mut stops: PutEnd<Job<'a>>, count: usize) -> EndedPut<Job<'a>>
     requires unused { IsUnusedPut stops }
     requires few { count ≤ worker_limit }

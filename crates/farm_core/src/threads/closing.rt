@@ -9,7 +9,7 @@ ghost use Rattle.farm_threads.specs.Feed.{right_back, IsJoint, IsOfGate, AreFed,
 use farm_lanes::{EndedPut, Gate, Right, Seat};
 use farm_threads::{Fed, Job};
 
-// Splits nothing off a seat and joins it again, which changes nothing: the gate's contract then says that the seat's record is sound.
+/// Splits nothing off a seat and joins it again, which changes nothing: the gate's contract then says that the seat's record is sound.
 fn learn_sound(gate: &Gate, seat: Seat) -> Seat
     requires own { seat.gate ≡ gate.now.id }
     requires within { seat.has.draws ≤ seat.has.share }
@@ -21,8 +21,8 @@ fn learn_sound(gate: &Gate, seat: Seat) -> Seat
     gate.join(seat, none)
 }
 
-// Spends rights. Where they are all rights of the gate, the seat knows of no closing. Nobody draws from the gate afterwards, so that this
-// has no effect: it is done for the contract of a close, by which a gate whose rights are all left wasn't closed.
+/// Spends rights. Where they are all rights of the gate, the seat knows of no closing. Nobody draws from the gate afterwards, so that this
+/// has no effect: it is done for the contract of a close, by which a gate whose rights are all left wasn't closed.
 fn spend_all(gate: &Gate, mut seat: Seat, rights: Vec<Right>)
     requires own { (seat.gate ≡ gate.now.id) × Each (λ r. r ≡ gate.now.id) rights.items }
     requires sound { IsSound gate.now.size seat.has }
@@ -33,7 +33,7 @@ fn spend_all(gate: &Gate, mut seat: Seat, rights: Vec<Right>)
     }
 }
 
-// Puts a right that came back to the others.
+/// Puts a right that came back to the others.
 fn keep(rights: &mut Vec<Right>, right: Option<Right>)
     requires { vec_len rights.old < vec_capacity rights.old }
     ensures rights { rights.new.items ≡ rights.old.items ++ right_back right }

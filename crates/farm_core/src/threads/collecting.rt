@@ -26,7 +26,7 @@ pub(crate) struct Cleared<'a> {
     pub replies: TakeEnd<Reply<'a>>,
 }
 
-// Puts the replies on the board until every worker's end has come.
+/// Puts the replies on the board until every worker's end has come.
 fn clear<'a, R: Wait>(rt: &R, desk: Desk<'a>) -> Cleared<'a>
     requires empty { HoldsNothing desk.board.racks desk.board }
     requires unused { IsUnusedTake desk.replies }
@@ -67,7 +67,7 @@ impl<'a> Promise<Cleared<'a>> for ClearOf<'a> {
 /// The collector that was started, to be joined.
 pub(crate) type CollectorHandle<'a> = PromisedHandle<Cleared<'a>, ClearOf<'a>>;
 
-// What the collector's thread does. Where no thread was made for it, it waits for no worker and takes nothing.
+/// What the collector's thread does. Where no thread was made for it, it waits for no worker and takes nothing.
 fn clear_with<'a, R: Wait, P: Pause>(shared: &Shared<R, P>, desk: Desk<'a>) -> Cleared<'a>
     requires empty { HoldsNothing desk.board.racks desk.board }
     requires unused { IsUnusedTake desk.replies }

@@ -12,7 +12,7 @@ use lrc_code::{Outcome, Request};
 use lrc_plan::solve;
 use std::alloc::{AllocError, Global};
 
-// The requests of a list before its close.
+/// The requests of a list before its close.
 fn requests_of(alloc: Global, list: &RackList) -> Result<Vec<&Request>, AllocError>
     ensures { IfOk result (λ v. map (λ r. r.now) v.items ≡ before_close list.now) }
 {
@@ -26,7 +26,7 @@ fn requests_of(alloc: Global, list: &RackList) -> Result<Vec<&Request>, AllocErr
     Ok(requests)
 }
 
-// The reply to rack 0's request of this number: its answer, or that memory was refused.
+/// The reply to rack 0's request of this number: its answer, or that memory was refused.
 fn reply_of(
     alloc: Global,
     number: usize,
@@ -42,7 +42,7 @@ fn reply_of(
     Ok(Reply::done(0, number as u64, request, outcome))
 }
 
-// Whether a collector accepts the reply to the request of its place.
+/// Whether a collector accepts the reply to the request of its place.
 fn accepts<'a>(collector: &mut Collector<'a>, reply: Reply<'a>) -> bool
     requires place { (d : Asked) → reply.request ≡ slice_index_or (served collector.old.racks reply.rack) reply.number d }
     requires before { IsInPlace collector.old }
@@ -101,7 +101,7 @@ fn answers_are_in_order_however_replies_come(rt: HostRuntime) -> Result<(), Allo
     Ok(())
 }
 
-// Replies in their order, those of them that are starved, and the number of the first that is missing.
+/// Replies in their order, those of them that are starved, and the number of the first that is missing.
 const MISSING: &[(&[usize], &[usize], u64)] = &[
     (&[2, 1], &[1], 0),
     (&[], &[], 0),
@@ -128,7 +128,7 @@ fn a_starved_or_missing_reply_leaves_no_answers(rt: HostRuntime) -> Result<(), A
     Ok(())
 }
 
-// Whether a reply is refused as a stranger, and handed back.
+/// Whether a reply is refused as a stranger, and handed back.
 fn is_stranger<'a>(collector: &mut Collector<'a>, reply: Reply<'a>) -> bool
     ensures { result ≡ true → collector.new ≡ collector.old }
 {
@@ -139,7 +139,7 @@ fn is_stranger<'a>(collector: &mut Collector<'a>, reply: Reply<'a>) -> bool
     }
 }
 
-// Whether a reply is refused as a second one, and handed back with its outcome, a fragment of this byte.
+/// Whether a reply is refused as a second one, and handed back with its outcome, a fragment of this byte.
 fn is_second<'a>(collector: &mut Collector<'a>, reply: Reply<'a>, byte: u8) -> bool
     ensures { result ≡ true → collector.new ≡ collector.old }
 {
@@ -190,7 +190,7 @@ fn strangers_and_second_replies_are_handed_back(rt: HostRuntime) -> Result<(), A
     Ok(())
 }
 
-// Refused replies leave a collector as it was: it still names the reply that is missing.
+/// Refused replies leave a collector as it was: it still names the reply that is missing.
 #[test]
 fn refused_replies_leave_the_collector_as_it_was(rt: HostRuntime) -> Result<(), AllocError> {
     let alloc = rt.alloc();

@@ -13,7 +13,7 @@ use std::thread::{self, Threads};
 
 const MOST_TURNS: u64 = 1_000_000;
 
-// Racks whose feeds have these entries.
+/// Racks whose feeds have these entries.
 fn feed_lists_of(
     rt: &impl Abort,
     alloc: Global,
@@ -74,13 +74,13 @@ pub(crate) fn assert_feed(
     );
 }
 
-// Holds the feeder of one feed ahead of its first order until that of the other has passed it.
+/// Holds the feeder of one feed ahead of its first order until that of the other has passed it.
 #[derive(Drop)]
 struct Held {
     first: usize,
     behind: AtomicBool,
     missed: AtomicBool,
-    // How often it was called after an order.
+    /// How often it was called after an order.
     passed: AtomicU64,
 }
 
@@ -112,7 +112,7 @@ impl Pause for Held {
 
 const CLOSE: Entry = Entry::Close;
 
-// A rack without a close, one of closes alone, one whose close is in the other feed, and one of two feeds with a close.
+/// A rack without a close, one of closes alone, one whose close is in the other feed, and one of two feeds with a close.
 const TWO_FEEDS: &[&[&[Entry]]] = &[
     &[&[LOCAL, SEVERAL], &[GLOBAL]],
     &[&[CLOSE], &[CLOSE]],
@@ -120,7 +120,7 @@ const TWO_FEEDS: &[&[&[Entry]]] = &[
     &[&[LOCAL, CLOSE, GLOBAL], &[LOCAL, CLOSE, GLOBAL]],
 ];
 
-// Asserts that the first of two feeds got a byte and several, in this order, and the second a byte.
+/// Asserts that the first of two feeds got a byte and several, in this order, and the second a byte.
 fn assert_open(rt: &impl Abort, answers: &[(usize, Outcome)]) {
     assert_eq!(rt; answers.len(), 3);
     assert_feed(rt, answers, 0, &[Some(0x01), None]);
@@ -139,7 +139,7 @@ pub(crate) fn assert_raced(rt: &impl Abort, answers: &[(usize, Outcome)], feed: 
     }
 }
 
-// Asserts that there is an answer to one feed, or one to each, of byte 01.
+/// Asserts that there is an answer to one feed, or one to each, of byte 01.
 fn assert_both(rt: &impl Abort, answers: &[(usize, Outcome)]) {
     match answers {
         [(_, only)] => assert_eq!(rt; answer_of(only), Answer::Byte(0x01)),
@@ -152,7 +152,7 @@ fn assert_both(rt: &impl Abort, answers: &[(usize, Outcome)]) {
     }
 }
 
-// Each row a hundred times, with 3 workers and queue 1.
+/// Each row a hundred times, with 3 workers and queue 1.
 #[test]
 fn feeds_are_answered_up_to_a_close(rt: HostRuntime) -> Result<(), AllocError> {
     let alloc = rt.alloc();
@@ -175,7 +175,7 @@ fn feeds_are_answered_up_to_a_close(rt: HostRuntime) -> Result<(), AllocError> {
 
 const RACED: &[&[&[Entry]]] = &[&[&[CLOSE], &[LOCAL]]];
 
-// The number of answers where the feeder of this feed goes first.
+/// The number of answers where the feeder of this feed goes first.
 fn answers_with_first<R: Abort + Threads + Wait + Sync>(
     rt: &R,
     alloc: Global,
@@ -201,7 +201,7 @@ fn answers_with_first<R: Abort + Threads + Wait + Sync>(
     }
 }
 
-// The feeders of a rack run at the same time: either may go first.
+/// The feeders of a rack run at the same time: either may go first.
 #[test]
 fn either_feed_may_go_first(rt: HostRuntime) -> Result<(), AllocError> {
     let alloc = rt.alloc();
@@ -212,8 +212,8 @@ fn either_feed_may_go_first(rt: HostRuntime) -> Result<(), AllocError> {
     Ok(())
 }
 
-// Holds the worker in the first request until the feeder has passed the order that waits for room in the queue, and a thousand turns
-// more.
+/// Holds the worker in the first request until the feeder has passed the order that waits for room in the queue, and a thousand turns
+/// more.
 #[derive(Drop)]
 struct Full {
     waiting: usize,
@@ -224,7 +224,7 @@ struct Full {
 }
 
 impl Full {
-    // The order at this position is the first that a full queue has no room for.
+    /// The order at this position is the first that a full queue has no room for.
     fn new(waiting: usize) -> Full {
         Full {
             waiting,
@@ -271,7 +271,7 @@ impl Pause for Full {
     }
 }
 
-// One rack with one feed, 1 worker: while it is held in the first, as many jobs wait as the queue holds, and one more at its end.
+/// One rack with one feed, 1 worker: while it is held in the first, as many jobs wait as the queue holds, and one more at its end.
 fn fills<R: Abort + Threads + Wait + Sync>(
     rt: &R,
     alloc: Global,
@@ -300,7 +300,7 @@ fn fills<R: Abort + Threads + Wait + Sync>(
     Ok(())
 }
 
-// With one worker no more jobs wait than the queue holds, and no fewer.
+/// With one worker no more jobs wait than the queue holds, and no fewer.
 #[test]
 fn jobs_wait_in_the_queue_alone(rt: HostRuntime) -> Result<(), AllocError> {
     let alloc = rt.alloc();

@@ -13,10 +13,10 @@ use std::thread::{self, Threads};
 
 const MOST_TURNS: u64 = 1_000_000;
 
-// Enough for another worker to answer two requests and to end.
+/// Enough for another worker to answer two requests and to end.
 const LATE_TURNS: u64 = 200_000;
 
-// For rack 1, holds request 0 until request 1 was answered, and request 1 until request 0 was begun.
+/// For rack 1, holds request 0 until request 1 was answered, and request 1 until request 0 was begun.
 #[derive(Drop)]
 struct Crossed {
     begun: AtomicBool,
@@ -33,7 +33,7 @@ impl Crossed {
         }
     }
 
-    // Waits until it is set, or notes that it wasn't in a million turns.
+    /// Waits until it is set, or notes that it wasn't in a million turns.
     fn hold(&self, until: &AtomicBool) {
         for _ in 0..MOST_TURNS {
             if until.load(Ordering::SeqCst) {
@@ -64,7 +64,7 @@ impl Pause for Crossed {
     }
 }
 
-// Holds each request until as many were begun as there are workers.
+/// Holds each request until as many were begun as there are workers.
 #[derive(Drop)]
 struct Gathered {
     workers: u64,
@@ -87,7 +87,7 @@ impl Pause for Gathered {
     fn after(&self, _rack: usize, _number: u64) {}
 }
 
-// Holds the first request for long.
+/// Holds the first request for long.
 struct Late;
 
 impl Pause for Late {
@@ -109,7 +109,7 @@ const ANSWERS_OF_TWO: &[&[Option<u8>]] = &[
     &[Some(0x01), None, Some(0x6e)],
 ];
 
-// Two racks that ask the same, where two requests of the second have to meet.
+/// Two racks that ask the same, where two requests of the second have to meet.
 fn meets<R: Abort + Threads + Wait + Sync>(
     rt: &R,
     alloc: Global,
@@ -166,7 +166,7 @@ const SIXTEEN: &[&[Entry]] = &[&[LOCAL; 16]];
 
 const ANSWERS_OF_SIXTEEN: &[&[Option<u8>]] = &[&[Some(0x01); 16]];
 
-// As many workers are started as are set: sixteen requests are worked on at once.
+/// As many workers are started as are set: sixteen requests are worked on at once.
 #[test]
 fn all_sixteen_workers_meet(rt: HostRuntime) -> Result<(), AllocError> {
     let alloc = rt.alloc();
@@ -185,7 +185,7 @@ fn all_sixteen_workers_meet(rt: HostRuntime) -> Result<(), AllocError> {
     Ok(())
 }
 
-// The collector waits for the worker that ends last: in a queue of one its reply and its mark have no room together.
+/// The collector waits for the worker that ends last: in a queue of one its reply and its mark have no room together.
 #[test]
 fn the_worker_that_ends_last_is_waited_for(rt: HostRuntime) -> Result<(), AllocError> {
     let alloc = rt.alloc();

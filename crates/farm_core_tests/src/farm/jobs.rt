@@ -10,7 +10,7 @@ use std::process::Abort;
 use std::sync::Wait;
 use std::test::Fail;
 
-// A lane for eight items, with two ends of each kind.
+/// A lane for eight items, with two ends of each kind.
 #[derive(Drop)]
 struct TwoToTwo<T: Drop> {
     first: PutEnd<T>,
@@ -37,7 +37,7 @@ fn two_to_two<T: Send + Drop>(alloc: Global) -> Result<TwoToTwo<T>, LaneError>
     })
 }
 
-// Works until a stop: so many items are taken, and so many put.
+/// Works until a stop: so many items are taken, and so many put.
 fn works<'a, R: Abort + Wait>(
     rt: &R,
     alloc: Global,
@@ -52,7 +52,7 @@ fn works<'a, R: Abort + Wait>(
     assert_eq!(rt; (worked.jobs.count(), worked.replies.count()), (taken, put));
 }
 
-// Feeds this list through a gate of its own.
+/// Feeds this list through a gate of its own.
 fn feed_alone<'a, R: Wait>(
     rt: &R,
     alloc: Global,
@@ -68,7 +68,7 @@ fn feed_alone<'a, R: Wait>(
     Ok(feed(rt, &gate, seat, right, 0, 0, list, jobs, &NoPause))
 }
 
-// The list's gate is closed at 2.
+/// The list's gate is closed at 2.
 fn feeds_two<'a, R: Abort + Wait>(rt: &R, alloc: Global, list: &'a RackList, jobs: PutEnd<Job<'a>>)
     requires { IsUnusedPut jobs }
 {
@@ -86,7 +86,7 @@ fn stops_both<'a>(rt: &impl Wait, mut jobs: PutEnd<Job<'a>>)
     jobs.put(rt, Job::Stop);
 }
 
-// Asserts that the next item is a reply of this number with this answer.
+/// Asserts that the next item is a reply of this number with this answer.
 fn assert_next<'a, R: Abort + Wait>(
     rt: &R,
     replies: &mut TakeEnd<Reply<'a>>,
@@ -109,7 +109,7 @@ fn is_end<'a>(rt: &impl Wait, replies: &mut TakeEnd<Reply<'a>>) -> bool {
     matches!(replies.take(rt), Item::End { .. })
 }
 
-// The gate is closed at 2, the first worker replies to both requests and the second to none.
+/// The gate is closed at 2, the first worker replies to both requests and the second to none.
 #[test]
 fn a_feeder_and_two_workers_answer_up_to_the_close(rt: HostRuntime) -> Result<(), Fail> {
     let alloc = rt.alloc();
@@ -127,7 +127,7 @@ fn a_feeder_and_two_workers_answer_up_to_the_close(rt: HostRuntime) -> Result<()
     Ok(())
 }
 
-// Asserts that a worker answers each of these requests, by two lanes and a stop, or says that one of them starved.
+/// Asserts that a worker answers each of these requests, by two lanes and a stop, or says that one of them starved.
 fn answers_each<R: Abort + Wait>(rt: &R, alloc: Global, entries: &[Entry]) -> Result<(), Fail> {
     let list = list_of(rt, alloc, entries)?;
     let jobs = two_to_two(alloc)?;
@@ -161,13 +161,13 @@ fn answers_each<R: Abort + Wait>(rt: &R, alloc: Global, entries: &[Entry]) -> Re
     Ok(())
 }
 
-// Where a script refuses the memory of the plan's arena or that of the answer, the reply says so.
+/// Where a script refuses the memory of the plan's arena or that of the answer, the reply says so.
 #[test]
 fn a_worker_without_memory_says_so(rt: HostRuntime) -> Result<(), Fail> {
     answers_each(&rt, rt.alloc(), &[LOCAL])
 }
 
-// Each job has an arena of its own, so twice as many refusals starve one of two jobs.
+/// Each job has an arena of its own, so twice as many refusals starve one of two jobs.
 #[test]
 fn each_job_has_an_arena_of_its_own(rt: HostRuntime) -> Result<(), Fail> {
     answers_each(&rt, rt.alloc(), &[LOCAL, LOCAL])

@@ -51,7 +51,7 @@ fn a_run_has_at_most_16_racks(rt: HostRuntime) -> Result<(), AllocError> {
     Ok(())
 }
 
-// So many racks of so many feeds, of which the last has another number of them.
+/// So many racks of so many feeds, of which the last has another number of them.
 fn feeds(
     rt: &impl Abort,
     alloc: Global,
@@ -67,7 +67,7 @@ fn feeds(
     Ok(all)
 }
 
-// How many racks came back, and how many feeds of the last of them.
+/// How many racks came back, and how many feeds of the last of them.
 fn sizes(racks: &[Vec<RackList>]) -> (usize, usize) {
     match racks.last() {
         Some(last) => (racks.len(), last.len()),
@@ -75,7 +75,7 @@ fn sizes(racks: &[Vec<RackList>]) -> (usize, usize) {
     }
 }
 
-// Numbers of racks, of feeds of each, and of feeds of the last.
+/// Numbers of racks, of feeds of each, and of feeds of the last.
 const ACCEPTED: &[(usize, usize, usize)] = &[
     (0, 0, 0),
     (1, 1, 1),
@@ -84,7 +84,7 @@ const ACCEPTED: &[(usize, usize, usize)] = &[
     (16, 4, 4),
 ];
 
-// Numbers of racks, and of feeds of the last.
+/// Numbers of racks, and of feeds of the last.
 const REFUSED: &[(usize, usize)] = &[(1, 0), (2, 0), (16, 0), (1, 5), (2, 5), (16, 5)];
 
 #[test]
@@ -110,7 +110,7 @@ fn racks_have_one_to_four_feeds(rt: HostRuntime) -> Result<(), AllocError> {
     Ok(())
 }
 
-// The number of racks is tested before that of their feeds.
+/// The number of racks is tested before that of their feeds.
 #[test]
 fn racks_are_counted_before_their_feeds(rt: HostRuntime) -> Result<(), AllocError> {
     let alloc = rt.alloc();
@@ -141,7 +141,7 @@ fn settings_are_refused_beyond_their_limits(rt: HostRuntime) {
     assert_eq!(rt; Settings::new(1, 1025).err(), Some(SettingsFault::BadQueue));
 }
 
-// What the faults of settings say.
+/// What the faults of settings say.
 const TEXTS: &[(SettingsFault, &str)] = &[
     (
         SettingsFault::BadWorkers,

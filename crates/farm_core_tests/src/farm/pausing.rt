@@ -7,7 +7,7 @@ use std::alloc::AllocError;
 use std::process::Abort;
 use std::sync::atomic::{AtomicBool, AtomicU64, Ordering};
 
-// Counts the calls for each rack's requests and for each feed's orders, and notes one that names a request or an order that isn't there.
+/// Counts the calls for each rack's requests and for each feed's orders, and notes one that names a request or an order that isn't there.
 #[derive(Drop)]
 struct Calls {
     strange: AtomicBool,
@@ -28,7 +28,7 @@ impl Calls {
         }
     }
 
-    // Asserts that no call was strange, and how many there were for the requests of each rack and for the orders of each feed.
+    /// Asserts that no call was strange, and how many there were for the requests of each rack and for the orders of each feed.
     fn assert_are(&self, rt: &impl Abort, requests: [u64; 3], orders: [u64; 7]) {
         assert!(rt;
             !self.strange.load(Ordering::SeqCst),
@@ -83,7 +83,7 @@ fn counts_of_feeds(counts: &[AtomicU64; 7]) -> [u64; 7] {
     found
 }
 
-// The rack of a request of `SEVEN_FEEDS`, by its number within the rack.
+/// The rack of a request of `SEVEN_FEEDS`, by its number within the rack.
 fn rack_of(rack: usize, number: u64) -> Option<usize> {
     match (rack, number) {
         (0, 0) | (1, 0..=2) | (2, 0..=3) => Some(rack),
@@ -91,7 +91,7 @@ fn rack_of(rack: usize, number: u64) -> Option<usize> {
     }
 }
 
-// Which of `SEVEN_FEEDS` an order is of, by its position within the feed.
+/// Which of `SEVEN_FEEDS` an order is of, by its position within the feed.
 fn feed_of(rack: usize, feed: usize, position: usize) -> Option<usize> {
     match (rack, feed, position) {
         (0, 0, 0) => Some(0),
@@ -128,7 +128,7 @@ const SEVEN_FEEDS: &[&[&[Entry]]] = &[
     &[&[], &[LOCAL], &[LOCAL], &[GLOBAL, LOCAL]],
 ];
 
-// Racks of one, two and four feeds.
+/// Racks of one, two and four feeds.
 #[test]
 fn each_order_of_seven_feeds_is_given_once(rt: HostRuntime) -> Result<(), AllocError> {
     let alloc = rt.alloc();
@@ -142,7 +142,7 @@ fn each_order_of_seven_feeds_is_given_once(rt: HostRuntime) -> Result<(), AllocE
 
 const TWO_LISTS: &[&[Entry]] = &[&[LOCAL], &[GLOBAL]];
 
-// Racks of one list each: a list is its rack's feed 0.
+/// Racks of one list each: a list is its rack's feed 0.
 #[test]
 fn each_order_of_two_lists_is_given_once(rt: HostRuntime) -> Result<(), AllocError> {
     let alloc = rt.alloc();

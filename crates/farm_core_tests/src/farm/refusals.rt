@@ -14,7 +14,7 @@ use std::process::Abort;
 use std::sync::Wait;
 use std::thread::Threads;
 
-// Sixteen workers answer the same two racks in `held`.
+/// Sixteen workers answer the same two racks in `held`.
 #[test]
 fn two_workers_answer_two_racks(rt: HostRuntime) -> Result<(), AllocError> {
     let alloc = rt.alloc();
@@ -24,7 +24,7 @@ fn two_workers_answer_two_racks(rt: HostRuntime) -> Result<(), AllocError> {
     Ok(())
 }
 
-// A rack of four feeds without a close, and one of two feeds that both have one.
+/// A rack of four feeds without a close, and one of two feeds that both have one.
 const SIX_FEEDS: &[&[&[Entry]]] = &[
     &[&[LOCAL, SEVERAL], &[GLOBAL], &[], &[LOCAL]],
     &[&[LOCAL, Entry::Close], &[Entry::Close]],

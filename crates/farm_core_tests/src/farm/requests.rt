@@ -49,7 +49,7 @@ pub(crate) const ONE: &[&[Entry]] = &[&[LOCAL, SEVERAL, GLOBAL]];
 /// Its answers, as `assert_racks` takes them.
 pub(crate) const ANSWERS_OF_ONE: &[&[Option<u8>]] = &[&[Some(0x01), None, Some(0x6e)]];
 
-// A request, which is accepted.
+/// A request, which is accepted.
 fn request(
     rt: &impl Abort,
     alloc: Global,
@@ -126,7 +126,7 @@ pub(crate) fn wanted_of(byte: Option<u8>) -> Answer {
     }
 }
 
-// Asserts that these are the answers of the rack of this number.
+/// Asserts that these are the answers of the rack of this number.
 fn assert_answers(rt: &impl Abort, rack: usize, outcomes: &[Outcome], wanted: &[Option<u8>]) {
     assert_eq!(rt; outcomes.len(), wanted.len(), "answers of rack {rack}");
     for (number, (outcome, byte)) in outcomes.iter().zip(wanted).enumerate() {

@@ -47,7 +47,7 @@ fn requests_before_the_close_are_answered(rt: HostRuntime) -> Result<(), AllocEr
     Ok(())
 }
 
-// Nothing after the close is served.
+/// Nothing after the close is served.
 #[test]
 fn a_list_serves_the_requests_before_its_close(rt: HostRuntime) -> Result<(), AllocError> {
     let list = list_of(&rt, rt.alloc(), &[LOCAL, SEVERAL, Entry::Close, GLOBAL])?;

@@ -7,7 +7,7 @@ use farm_core::{
 use farm_lanes::{EndedPut, Seat, TakeEnd};
 use lrc_code::{Outcome, Request};
 
-// The slot, the number and the request of a job that isn't to stop.
+/// The slot, the number and the request of a job that isn't to stop.
 fn parts_of_job<'a>(job: Job<'a>) -> Option<(usize, u64, &'a Request)> {
     match job {
         Job::Solve {
@@ -37,7 +37,7 @@ fn parts_of_worked<'a>(worked: Worked<'a>) -> (TakeEnd<Job<'a>>, EndedPut<Reply<
     (jobs, replies)
 }
 
-// What a feeder leaves: its slot, its feed and what its close was answered; its list and its seat; whether the right is left; its end.
+/// What a feeder leaves: its slot, its feed and what its close was answered; its list and its seat; whether the right is left; its end.
 type Left<'a> = (
     (usize, usize, Option<u64>),
     (&'a RackList, Seat),

@@ -136,7 +136,7 @@ impl<A: Allocator> Gate<A> {
     }
 }
 
-// The room for the lists of seats and of rights.
+/// The room for the lists of seats and of rights.
 fn rooms<A: Allocator + Clone>(
     alloc: &A,
     seats: usize,

@@ -92,7 +92,7 @@ impl Lane {
     }
 }
 
-// All that may be refused comes before the first end is made.
+/// All that may be refused comes before the first end is made.
 fn open_ends<T: Drop, A: Allocator + Clone>(
     alloc: A,
     capacity: usize,

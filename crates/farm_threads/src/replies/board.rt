@@ -35,7 +35,7 @@ impl<'a> Model for Board<'a> {
     ghost invariant = { λ b. HasRooms (lists_of b.lists) b.rows.items };
 }
 
-// How many requests of these feeds may be answered.
+/// How many requests of these feeds may be answered.
 fn most_of(feeds: &[RackList]) -> usize
     requires { length feeds.now ≤ feed_limit }
     ensures { result ≡ most_served feeds.now }
@@ -97,7 +97,7 @@ impl<'a> Board<'a> {
     }
 }
 
-// The answers, row by row, each with its feed's number.
+/// The answers, row by row, each with its feed's number.
 fn all_by_feed(alloc: Global, rows: Vec<Row>) -> Result<Vec<Vec<(usize, Outcome)>>, AllocError>
     ensures { IfOk result (λ v. AllZip (λ row answers. AllZip IsOutcomeOf (filled row) answers.items) rows.entry.items v.items) }
 {
@@ -108,7 +108,7 @@ fn all_by_feed(alloc: Global, rows: Vec<Row>) -> Result<Vec<Vec<(usize, Outcome)
     Ok(all)
 }
 
-// The answers without their feeds' numbers, row by row.
+/// The answers without their feeds' numbers, row by row.
 fn without_feeds(
     alloc: Global,
     rows: Vec<Vec<(usize, Outcome)>>,
@@ -122,7 +122,7 @@ fn without_feeds(
     Ok(all)
 }
 
-// The answers of one row.
+/// The answers of one row.
 fn outcomes_of(alloc: Global, row: Vec<(usize, Outcome)>) -> Result<Vec<Outcome>, AllocError>
     ensures { IfOk result (λ v. v.items ≡ map (λ answer. answer.1) row.items) }
 {

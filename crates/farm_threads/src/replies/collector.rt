@@ -81,7 +81,7 @@ impl<'a> Collector<'a> {
     }
 }
 
-// The first rack and number without a reply.
+/// The first rack and number without a reply.
 fn least_missing(rows: &[Row]) -> Option<(usize, u64)>
     ensures some { IfSome result (λ p. IsLeastGap rows.now p.0 p.1) }
     ensures none { IfNone result (HasNoGaps rows.now) }
@@ -94,7 +94,7 @@ fn least_missing(rows: &[Row]) -> Option<(usize, u64)>
     None
 }
 
-// The answers, row by row.
+/// The answers, row by row.
 fn all_outcomes(alloc: Global, rows: Vec<Row>) -> Result<Vec<Vec<Outcome>>, FinishFault>
     requires { HasNoGaps rows.items }
     ensures { MatchResult result (λ v. AllZip (λ row answers. AllZip Answers row answers.items) rows.entry.items v.items)

@@ -55,7 +55,7 @@ pub fn plan_in<A: Allocator + Clone>(
     Ok(Plan { value, checks })
 }
 
-// The tree of the value's row, where there is one.
+/// The tree of the value's row, where there is one.
 fn value_tree<A: Allocator + Clone>(
     alloc: &A,
     row: &Option<[Gf; 16]>,
@@ -68,7 +68,7 @@ fn value_tree<A: Allocator + Clone>(
     }
 }
 
-// The trees of the rows that aren't 00 everywhere.
+/// The trees of the rows that aren't 00 everywhere.
 fn check_trees<A: Allocator + Clone>(
     alloc: &A,
     rows: &[[Gf; 16]; 4],
@@ -83,7 +83,7 @@ fn check_trees<A: Allocator + Clone>(
     Ok(checks)
 }
 
-// Adds the tree of a row, unless the row is 00 everywhere.
+/// Adds the tree of a row, unless the row is 00 everywhere.
 fn push_tree<A: Allocator + Clone>(
     alloc: &A,
     row: &[Gf; 16],
@@ -98,7 +98,7 @@ fn push_tree<A: Allocator + Clone>(
     Ok(())
 }
 
-// The tree of a row over all places; none where the row is 00 everywhere.
+/// The tree of a row over all places; none where the row is 00 everywhere.
 fn tree_of<A: Allocator + Clone>(alloc: &A, row: &[Gf; 16]) -> Result<Option<Tree<A>>, AllocError>
     ensures { IfOk result (λ o. IsRowTree row.now (option_map form_of o)) }
 {

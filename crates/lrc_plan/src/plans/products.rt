@@ -14,7 +14,7 @@ use lrc_code::Place;
 use lrc_field::Gf;
 use std::alloc::{AllocError, Allocator};
 
-// A scalar times a place's byte.
+/// A scalar times a place's byte.
 fn product<A: Allocator>(alloc: A, scalar: Gf, place: Place) -> Result<Tree<A>, AllocError>
     ensures value { IfOk result (λ t. (b : Place → ℕ) → GivesBytes b → meaning b (form_of t) ≡ times scalar (b place)) }
     ensures depth { IfOk result (λ t. depth (form_of t) ≤ 2) }
@@ -29,7 +29,7 @@ fn product<A: Allocator>(alloc: A, scalar: Gf, place: Place) -> Result<Tree<A>, 
     Ok(Tree::Scale(scalar, Box::new(alloc, leaf)?))
 }
 
-// The places from the first on whose coefficient is not 00.
+/// The places from the first on whose coefficient is not 00.
 fn from_first_term<'a>(row: &[Gf; 16], places: &'a [Place]) -> &'a [Place]
     ensures { result.now ≡ from_first_term row.now places.now }
 {
@@ -71,7 +71,7 @@ pub(crate) fn row_tree<A: Allocator + Clone>(
     }
 }
 
-// One term more before the others.
+/// One term more before the others.
 fn added<A: Allocator + Clone>(
     alloc: &A,
     own: Tree<A>,

@@ -14,11 +14,11 @@ use std::alloc::{AllocError, Global};
 use std::collections::HashMap;
 use std::marker::Model;
 
-// How many plans are remembered at most: as many as there are questions where one to four of the sixteen fragments of the (12,2,2) code are
-// lost; of the (6,2,2) code there are 5,120 in all. Those take 11 MB.
+/// How many plans are remembered at most: as many as there are questions where one to four of the sixteen fragments of the (12,2,2) code
+/// are lost; of the (6,2,2) code there are 5,120 in all. Those take 11 MB.
 const MOST_PLANS: usize = 9_216;
 
-// A plan, and what it is the plan for.
+/// A plan, and what it is the plan for.
 #[derive(Drop)]
 struct Known {
     code: Code,
@@ -45,7 +45,7 @@ impl Model for Known {
 }
 
 impl Known {
-    // The plan, where it is the plan for these.
+    /// The plan, where it is the plan for these.
     fn plan_for(&self, code: Code, survivors: PlaceSet, target: Place) -> Option<&Plan<Global>>
         ensures { IfSome result (λ plan.
             IsPlan (tables_of code) (is_in survivors) target (value_form plan.now) (check_forms plan.now)) }
@@ -78,7 +78,7 @@ impl RememberedPlans {
         }
     }
 
-    // Puts a plan beside the others, or in place of all of them where there are as many as there may be.
+    /// Puts a plan beside the others, or in place of all of them where there are as many as there may be.
     fn remember(
         &mut self,
         code: Code,
@@ -101,7 +101,7 @@ impl RememberedPlans {
         Ok(())
     }
 
-    // The plan for these, where it is remembered.
+    /// The plan for these, where it is remembered.
     fn find(&self, code: Code, survivors: PlaceSet, target: Place) -> Option<&Plan<Global>>
         ensures { IfSome result (λ plan.
             IsPlan (tables_of code) (is_in survivors) target (value_form plan.now) (check_forms plan.now)) }
@@ -129,7 +129,7 @@ impl RememberedPlans {
     }
 }
 
-// A number for each question: its code, its survivors and its target.
+/// A number for each question: its code, its survivors and its target.
 fn key_of(code: Code, survivors: PlaceSet, target: Place) -> u32 {
     let start = match code {
         Code::Narrow => target.index() as u32,

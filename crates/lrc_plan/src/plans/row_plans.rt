@@ -38,7 +38,7 @@ pub fn plan_rows(code: Code, survivors: PlaceSet, target: Place) -> RowPlan
     plan_by_reduction(code, survivors, target)
 }
 
-// The plan from the equations solved for the lost places.
+/// The plan from the equations solved for the lost places.
 fn plan_by_reduction(code: Code, survivors: PlaceSet, target: Place) -> RowPlan
     requires lost { is_in survivors target ≡ false }
     requires place { has_place (tables_of code) target ≡ true }
@@ -57,7 +57,7 @@ pub fn reduce_by_lost(code: Code, survivors: PlaceSet) -> Reduced
     reduce_in(code, lost)
 }
 
-// The plan of a repair inside the target's group that leaves no checks, where `row_in_group` gives its row.
+/// The plan of a repair inside the target's group that leaves no checks, where `row_in_group` gives its row.
 fn plan_in_group(code: Code, survivors: PlaceSet, target: Place) -> Option<RowPlan>
     requires lost { is_in survivors target ≡ false }
     requires place { has_place (tables_of code) target ≡ true }
@@ -70,8 +70,8 @@ fn plan_in_group(code: Code, survivors: PlaceSet, target: Place) -> Option<RowPl
     })
 }
 
-// The sum of the others of the target's group, where they survive, and the other group's parity and both global parities are lost.
-// There are no checks, since the equations can be solved for the four lost places, whatever the survivors hold.
+/// The sum of the others of the target's group, where they survive, and the other group's parity and both global parities are lost.
+/// There are no checks, since the equations can be solved for the four lost places, whatever the survivors hold.
 fn row_in_group(code: Code, survivors: PlaceSet, target: Place) -> Option<[Gf; 16]>
     requires lost { is_in survivors target ≡ false }
     requires place { has_place (tables_of code) target ≡ true }
@@ -94,7 +94,7 @@ pub fn check_rows(code: Code, survivors: PlaceSet) -> [[Gf; 16]; 4]
     checks_from(code, &reduced, survivors)
 }
 
-// The plan from a reduction by the lost places.
+/// The plan from a reduction by the lost places.
 fn rows_from(code: Code, reduced: &Reduced, survivors: PlaceSet, target: Place) -> RowPlan
     requires lost { is_in survivors target ≡ false }
     requires place { has_place (tables_of code) target ≡ true }
@@ -121,7 +121,7 @@ pub fn checks_from(code: Code, reduced: &Reduced, survivors: PlaceSet) -> [[Gf; 
     ]
 }
 
-// A row without a pivot, and 00 for another.
+/// A row without a pivot, and 00 for another.
 fn check_row(reduced: &Reduced, row: usize) -> [Gf; 16]
     requires { row < 4 }
     ensures { IsCheckRow (coef_of reduced.now) (pivot_of reduced.now) row result }

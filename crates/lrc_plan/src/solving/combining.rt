@@ -7,8 +7,8 @@ ghost use Rattle.lrc_plan.specs.Terms.{IsCombined};
 use lrc_field::{Term, combine_into};
 use std::alloc::{AllocError, Global};
 
-// So many positions are summed at a time; no fewer than twice as many are left for another part, so that none is shorter than one that is
-// summed by tables.
+/// So many positions are summed at a time; no fewer than twice as many are left for another part, so that none is shorter than one that is
+/// summed by tables.
 const PART_BYTES: usize = 4096;
 
 /// The sum of the terms at each of `len` positions, in a vector. The vector is written once: nothing is filled with zeros but the part
@@ -25,7 +25,7 @@ pub(crate) fn combined(alloc: Global, len: usize, terms: &[Term]) -> Result<Vec<
     Ok(bytes)
 }
 
-// Appends the sums at the next `PART_BYTES` positions, or at all that are left where these are fewer than two parts.
+/// Appends the sums at the next `PART_BYTES` positions, or at all that are left where these are fewer than two parts.
 fn append_part(bytes: &mut Vec<u8>, len: usize, terms: &[Term]) -> Result<(), AllocError>
     requires few { length terms.now ≤ 16 }
     requires lengths { HaveLength len terms.now }

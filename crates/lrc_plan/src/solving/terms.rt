@@ -51,8 +51,8 @@ pub(crate) fn are_zero(rows: &[[Gf; 16]], request: &Request, sources: &Sources<'
     true
 }
 
-// Whether the sum of a row that isn't blank is 00 at every position. A call of its own, since the room for its terms costs more than the
-// look at a blank row.
+/// Whether the sum of a row that isn't blank is 00 at every position. A call of its own, since the room for its terms costs more than the
+/// look at a blank row.
 fn is_zero_sum(row: &[Gf; 16], request: &Request, sources: &Sources<'_>) -> bool
     requires { AreSources request.now.survivors sources.now }
     ensures { IsTrue result ↔ IsZeroRow request.now row.now }
@@ -70,7 +70,7 @@ pub(crate) fn is_blank(row: &[Gf; 16]) -> bool
     row.iter().all(|c| c.byte() == 0)
 }
 
-// The terms of a row's products with the survivors' bytes, at the start of the room.
+/// The terms of a row's products with the survivors' bytes, at the start of the room.
 fn row_terms<'s, 'a>(
     room: &'s mut [Term<'a>; 16],
     row: &[Gf; 16],

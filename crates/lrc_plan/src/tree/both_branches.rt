@@ -29,7 +29,7 @@ pub fn evaluate_both<R: Threads + Sync, A: Allocator + Sync>(
     evaluate_forked(rt, alloc, tree, Gf::new(1), request, forks.min(4))
 }
 
-// A factor times the tree's value, each branch of a sum in a vector of its own while forks are left.
+/// A factor times the tree's value, each branch of a sum in a vector of its own while forks are left.
 fn evaluate_forked<R: Threads + Sync, A: Allocator + Sync>(
     rt: &R,
     alloc: Global,

@@ -47,7 +47,7 @@ fn zeros(alloc: Global, len: usize) -> Result<Vec<u8>, AllocError>
     Vec::from_elem(alloc, 0u8, len)
 }
 
-// Adds the tree's value, times a factor, at each position.
+/// Adds the tree's value, times a factor, at each position.
 fn add_scaled<A: Allocator>(tree: &Tree<A>, factor: Gf, request: &Request, dst: &mut [u8])
     requires can { CanEvaluate request.now (form_of tree.now) }
     requires whole { AreWhole request.now }

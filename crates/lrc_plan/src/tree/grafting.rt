@@ -18,7 +18,7 @@ pub struct GraftRefused<A: Allocator> {
 }
 
 impl<A: Allocator> Debug for GraftRefused<A> {
-    // Trees of any allocator are not written out.
+    /// Trees of any allocator are not written out.
     fn fmt<W: Write>(&self, f: &mut Formatter<W>) -> fmt::Result {
         f.write_str("GraftRefused")
     }
@@ -49,7 +49,7 @@ impl<A: Allocator> Tree<A> {
         }
     }
 
-    // The number of leaves of the place, or the greatest where there are more.
+    /// The number of leaves of the place, or the greatest where there are more.
     fn count_of(&self, place: Place) -> usize
         ensures { result ≡ min (place_total (form_of self.now) place) usize.MAX }
     {
@@ -60,7 +60,7 @@ impl<A: Allocator> Tree<A> {
         }
     }
 
-    // A copy of the scion for each leaf of the place. All are made before the host changes.
+    /// A copy of the scion for each leaf of the place. All are made before the host changes.
     fn copies_for(
         &self,
         alloc: A,
@@ -106,7 +106,7 @@ impl<A: Allocator> Tree<A> {
         }
     }
 
-    // Takes a copy for each leaf of the place.
+    /// Takes a copy for each leaf of the place.
     fn replace_leaves(&mut self, place: Place, scion: &Tree<A>, copies: &mut Vec<Tree<A>, A>)
         requires enough { place_total (form_of self.old) place ≤ vec_len copies.old }
         requires alike { All (λ t. form_of t ≡ form_of scion.now) copies.old.items }

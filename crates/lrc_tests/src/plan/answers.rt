@@ -7,7 +7,7 @@ use lrc_plan::{RememberedPlans, solve};
 use std::alloc::{AllocError, Allocator, Global};
 use std::process::Abort;
 
-// Whether `solve` gives the expected answer, with its plan in an allocator.
+/// Whether `solve` gives the expected answer, with its plan in an allocator.
 fn is_answered<A: Allocator + Clone>(
     alloc: Global,
     plan_alloc: A,
@@ -28,7 +28,7 @@ pub fn is_outcome(outcome: &Outcome, answer: Answer) -> bool {
     }
 }
 
-// Whether a case is, with the plan in the heap and in an arena.
+/// Whether a case is, with the plan in the heap and in an arena.
 fn is_worked(alloc: Global, case: &Case) -> Result<bool, AllocError> {
     let Some(request) = request_of(alloc, case)? else {
         return Ok(false);
@@ -40,7 +40,7 @@ fn is_worked(alloc: Global, case: &Case) -> Result<bool, AllocError> {
     )
 }
 
-// The name of the first of these that isn't; none where all are.
+/// The name of the first of these that isn't; none where all are.
 fn first_wrong(alloc: Global, cases: &[Case]) -> Result<Option<&'static str>, AllocError> {
     for case in cases {
         if !is_worked(alloc, case)? {
@@ -50,7 +50,7 @@ fn first_wrong(alloc: Global, cases: &[Case]) -> Result<Option<&'static str>, Al
     Ok(None)
 }
 
-// Asserts that there is no such case.
+/// Asserts that there is no such case.
 fn assert_none(rt: &impl Abort, wrong: Option<&str>) {
     assert!(rt; wrong.is_none(), "{wrong:?}");
 }
@@ -62,17 +62,17 @@ fn worked_requests_are_answered(rt: HostRuntime) -> Result<(), AllocError> {
     Ok(())
 }
 
-// Lengths around the parts in which an answer's vector is written: 4,096 bytes, and up to 8,191 for the last.
+/// Lengths around the parts in which an answer's vector is written: 4,096 bytes, and up to 8,191 for the last.
 const LENGTHS: &[u32] = &[
     1, 31, 32, 33, 4_095, 4_096, 4_097, 8_191, 8_192, 8_193, 12_288, 65_536,
 ];
 
-// The byte at each position of a long fragment: one byte at every third, so that no two parts of an answer are alike, and 00 elsewhere.
+/// The byte at each position of a long fragment: one byte at every third, so that no two parts of an answer are alike, and 00 elsewhere.
 fn byte_at(byte: u8, position: u32) -> u8 {
     if position % 3 == 0 { byte } else { 0 }
 }
 
-// A long fragment.
+/// A long fragment.
 fn spread(alloc: Global, byte: u8, length: u32) -> Result<Vec<u8>, AllocError> {
     let mut bytes = Vec::with_capacity(alloc, length as usize)?;
     for position in 0..length {
@@ -81,7 +81,7 @@ fn spread(alloc: Global, byte: u8, length: u32) -> Result<Vec<u8>, AllocError> {
     Ok(bytes)
 }
 
-// The survivors of a case with its bytes at every third position.
+/// The survivors of a case with its bytes at every third position.
 fn spread_survivors(alloc: Global, case: &Case, length: u32) -> Result<Vec<Fragment>, AllocError> {
     let mut survivors = Vec::new(alloc);
     for (place, bytes) in case.survivors {
@@ -94,14 +94,14 @@ fn spread_survivors(alloc: Global, case: &Case, length: u32) -> Result<Vec<Fragm
     Ok(survivors)
 }
 
-// The request for its fragment of them; none where it is refused.
+/// The request for its fragment of them; none where it is refused.
 fn spread_request(alloc: Global, case: &Case, length: u32) -> Result<Option<Request>, AllocError> {
     let survivors = spread_survivors(alloc, case, length)?;
     let stripe = "a".to_string(alloc)?;
     Ok(Request::new_in(case.code, stripe, case.target, length, survivors).ok())
 }
 
-// Whether an outcome is a byte at every third position, in a vector without room to spare.
+/// Whether an outcome is a byte at every third position, in a vector without room to spare.
 fn is_spread(
     alloc: Global,
     outcome: Outcome,
@@ -117,7 +117,7 @@ fn is_spread(
     }
 }
 
-// Whether such survivors have a case's answer at every third position.
+/// Whether such survivors have a case's answer at every third position.
 fn is_answered_at_length(alloc: Global, case: &Case, length: u32) -> Result<bool, AllocError> {
     match spread_request(alloc, case, length)? {
         Some(request) => is_spread(alloc, solve(alloc, alloc, &request)?, case.answer, length),
@@ -125,7 +125,7 @@ fn is_answered_at_length(alloc: Global, case: &Case, length: u32) -> Result<bool
     }
 }
 
-// Whether they do for the sum of three as they are, a sum of products, and the sum of six.
+/// Whether they do for the sum of three as they are, a sum of products, and the sum of six.
 fn are_answered_at_length(alloc: Global, length: u32) -> Result<bool, AllocError> {
     let narrow = cases();
     let wide = wide_cases();
@@ -147,7 +147,7 @@ fn long_answers_have_no_room_left(rt: HostRuntime) {
     }
 }
 
-// Whether a case is answered by plans that remember those of the cases before it.
+/// Whether a case is answered by plans that remember those of the cases before it.
 fn is_remembered(
     alloc: Global,
     plans: &mut RememberedPlans,
@@ -163,7 +163,7 @@ fn is_remembered(
     )
 }
 
-// The name of the first of these cases that isn't; none where all are.
+/// The name of the first of these cases that isn't; none where all are.
 fn first_forgotten(
     alloc: Global,
     plans: &mut RememberedPlans,
@@ -177,7 +177,7 @@ fn first_forgotten(
     Ok(None)
 }
 
-// The program answers by more plans than are remembered in gate/reference-lines.sh.
+/// The program answers by more plans than are remembered in gate/reference-lines.sh.
 #[test]
 fn worked_requests_are_answered_by_remembered_plans(rt: HostRuntime) -> Result<(), AllocError> {
     let mut plans = RememberedPlans::new(rt.alloc());

@@ -32,7 +32,7 @@ pub fn cases() -> &'static [Case; 17] {
     &CASES
 }
 
-// Most are over the stripe with x 01 02 03, y 04 05 06, px 00, py 07, p0 04 and p1 6E, worked out by hand.
+/// Most are over the stripe with x 01 02 03, y 04 05 06, px 00, py 07, p0 04 and p1 6E, worked out by hand.
 static CASES: [Case; 17] = [
     Case {
         name: "the three others of the group alone",

@@ -5,7 +5,7 @@ use lrc_code::{Code, Place, PlaceSet};
 use lrc_plan::{plan, plan_in};
 use std::alloc::{AllocError, Allocator, Global};
 
-// Whether the plan of x0 is local, of three leaves, with so many checks.
+/// Whether the plan of x0 is local, of three leaves, with so many checks.
 fn is_local<A: Allocator + Clone>(
     alloc: A,
     survivors: &[Place],
@@ -46,8 +46,8 @@ fn local_plans<A: Allocator + Clone>(alloc: &A) -> Result<bool, AllocError> {
     Ok(is_local(alloc.clone()?, &three, 0)? && is_local(alloc.clone()?, &nine, 3)?)
 }
 
-// Whether a scaled leaf of x2, put in the place of these leaves of x1 + x1, leaves two leaves of one place, whose sum is 00. Where the host
-// lacks the place it comes back.
+/// Whether a scaled leaf of x2, put in the place of these leaves of x1 + x1, leaves two leaves of one place, whose sum is 00. Where the
+/// host lacks the place it comes back.
 fn grafts_at<A: Allocator + Clone>(
     alloc: &A,
     place: Place,
@@ -84,8 +84,8 @@ fn plans_are_local_and_grafts_replace_each_leaf(rt: HostRuntime) {
     assert!(&rt; plans_and_grafts(&&bump) == Ok(true), "in an arena");
 }
 
-// Whether the target's plan has a value that reads no more fragments than the code has data, and how many checks; none where the target
-// survives or isn't in the code.
+/// Whether the target's plan has a value that reads no more fragments than the code has data, and how many checks; none where the target
+/// survives or isn't in the code.
 fn counts<A: Allocator + Clone>(
     alloc: A,
     code: Code,
@@ -103,7 +103,7 @@ fn counts<A: Allocator + Clone>(
     Ok(Some((has_value, plan.checks.len())))
 }
 
-// Whether plans made there have the known numbers of checks.
+/// Whether plans made there have the known numbers of checks.
 fn have_checks<A: Allocator + Clone>(alloc: &A) -> Result<bool, AllocError> {
     let local = set_of(&[Place::X1, Place::X2, Place::Px]);
     let global = set_of(&[Place::Y0, Place::Py]).others();
@@ -131,7 +131,7 @@ fn plans_have_the_known_numbers_of_checks(rt: HostRuntime) {
     assert!(&rt; have_checks(&&bump) == Ok(true), "in an arena");
 }
 
-// Whether each of these lost places has a value.
+/// Whether each of these lost places has a value.
 fn all_have_values<A: Allocator + Clone>(
     alloc: &A,
     code: Code,
@@ -147,7 +147,7 @@ fn all_have_values<A: Allocator + Clone>(
     Ok(true)
 }
 
-// The places whose bits are set.
+/// The places whose bits are set.
 fn places_of(alloc: Global, bits: usize) -> Result<Vec<Place>, AllocError> {
     let mut places = Vec::new(alloc);
     for index in 0..16usize {
@@ -160,7 +160,7 @@ fn places_of(alloc: Global, bits: usize) -> Result<Vec<Place>, AllocError> {
     Ok(places)
 }
 
-// How many sets of so many lost places there are, and in how many of them all targets have values.
+/// How many sets of so many lost places there are, and in how many of them all targets have values.
 fn recovered<A: Allocator + Clone>(
     alloc: Global,
     plan_alloc: &A,
@@ -200,14 +200,14 @@ fn each_three_and_most_four_lost_places_have_plans(rt: HostRuntime) {
     }
 }
 
-// A code, how many are lost, and how many such sets there are and in how many all targets have values.
+/// A code, how many are lost, and how many such sets there are and in how many all targets have values.
 const RECOVERED: &[(Code, usize, (usize, usize))] = &[
     (Code::Narrow, 3, (120, 120)),
     (Code::Narrow, 4, (210, 180)),
     (Code::Wide, 3, (560, 560)),
 ];
 
-// The others of the group of x0 in the (12,2,2) code.
+/// The others of the group of x0 in the (12,2,2) code.
 const SIX: [Place; 6] = [
     Place::X1,
     Place::X2,
@@ -217,7 +217,7 @@ const SIX: [Place; 6] = [
     Place::Px,
 ];
 
-// Whether the plan of x0 in the (12,2,2) code has these six leaves, and so many checks.
+/// Whether the plan of x0 in the (12,2,2) code has these six leaves, and so many checks.
 fn is_plan_of_six(alloc: Global, survivors: PlaceSet, checks: usize) -> Result<bool, AllocError> {
     if survivors.has(Place::X0) {
         return Ok(false);
@@ -237,7 +237,7 @@ fn is_plan_of_six(alloc: Global, survivors: PlaceSet, checks: usize) -> Result<b
     }
 }
 
-// There is no check where only the six survive, and there are three where all others do.
+/// There is no check where only the six survive, and there are three where all others do.
 #[test]
 fn the_local_plan_of_the_wide_code_reads_six(rt: HostRuntime) {
     let alloc = rt.alloc();

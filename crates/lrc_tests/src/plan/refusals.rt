@@ -11,17 +11,17 @@ use lrc_field::Gf;
 use lrc_plan::{Plan, Tree, plan_in, solve};
 use std::alloc::{AllocError, Allocator, Global};
 
-// Heaps of 0, 8, 16 and so on up to so many bytes are tried.
+/// Heaps of 0, 8, 16 and so on up to so many bytes are tried.
 const LARGEST: usize = 16_384;
 
-// The numbers of the allocations that were refused so far: all those below `next`.
+/// The numbers of the allocations that were refused so far: all those below `next`.
 #[derive(Drop)]
 struct Refused {
     next: usize,
 }
 
 impl Refused {
-    // Whether the number is the last one again, or the one after it.
+    /// Whether the number is the last one again, or the one after it.
     fn follows(&mut self, number: usize) -> bool {
         if number == self.next {
             self.next = self.next.wrapping_add(1);
@@ -30,8 +30,8 @@ impl Refused {
     }
 }
 
-// How many allocations fit the heap, where the first is a vector of so many trees, if of any, and the others are
-// nodes.
+/// How many allocations fit the heap, where the first is a vector of so many trees, if of any, and the others are
+/// nodes.
 fn fitting(heap: &LocalHeap, trees: usize) -> usize {
     let Ok(vector) = Vec::<Tree<&LocalHeap>, &LocalHeap>::with_capacity(heap, trees) else {
         return 0;
@@ -51,7 +51,7 @@ fn fitting(heap: &LocalHeap, trees: usize) -> usize {
     count
 }
 
-// The nodes of a tree below its root, each of which is an allocation.
+/// The nodes of a tree below its root, each of which is an allocation.
 fn nodes_below<A: Allocator>(tree: &Tree<A>) -> usize {
     match tree {
         Tree::Leaf(_) => 0,
@@ -62,7 +62,7 @@ fn nodes_below<A: Allocator>(tree: &Tree<A>) -> usize {
     }
 }
 
-// The allocations of a plan: a vector for the checks, if there are any, and the nodes.
+/// The allocations of a plan: a vector for the checks, if there are any, and the nodes.
 fn allocations<A: Allocator>(plan: &Plan<A>) -> usize {
     let mut count = if plan.checks.is_empty() { 0usize } else { 1 };
     if let Some(value) = &plan.value {
@@ -74,7 +74,7 @@ fn allocations<A: Allocator>(plan: &Plan<A>) -> usize {
     count
 }
 
-// Whether two plans have the same trees.
+/// Whether two plans have the same trees.
 fn are_same_plans<A: Allocator, B: Allocator>(one: &Plan<A>, other: &Plan<B>) -> bool {
     let values = match (&one.value, &other.value) {
         (Some(one), Some(other)) => are_same(one, other),
@@ -90,7 +90,7 @@ fn are_same_plans<A: Allocator, B: Allocator>(one: &Plan<A>, other: &Plan<B>) ->
             .all(|(one, other)| are_same(one, other))
 }
 
-// How a call ended in a heap.
+/// How a call ended in a heap.
 #[derive(Drop)]
 enum Ended {
     Refused,
@@ -98,7 +98,7 @@ enum Ended {
     Wrongly,
 }
 
-// How a copy of one of two same trees ends in this heap.
+/// How a copy of one of two same trees ends in this heap.
 fn copy_in_heap(heap: &LocalHeap, source: &Tree<Global>, same: &Tree<Global>) -> Ended {
     let copy = source.copy_in(heap);
     if !are_same(source, same) {
@@ -111,7 +111,7 @@ fn copy_in_heap(heap: &LocalHeap, source: &Tree<Global>, same: &Tree<Global>) ->
     }
 }
 
-// Whether the copy is refused at each of its three allocations in turn, and its source stays as it is.
+/// Whether the copy is refused at each of its three allocations in turn, and its source stays as it is.
 fn copies_in_turn(alloc: Global) -> Result<bool, AllocError> {
     let source = sample(alloc)?;
     let same = sample(alloc)?;
@@ -130,13 +130,13 @@ fn copies_in_turn(alloc: Global) -> Result<bool, AllocError> {
     Ok(false)
 }
 
-// Else a refusal isn't said, or another copy is made.
+/// Else a refusal isn't said, or another copy is made.
 #[test]
 fn copy_in_refused_leaves_its_source(rt: HostRuntime) {
     assert!(&rt; copies_in_turn(rt.alloc()) == Ok(true));
 }
 
-// How a graft of 02 * x2 for both leaves of x1 + x1 ends in this heap; the trees are in the other one.
+/// How a graft of 02 * x2 for both leaves of x1 + x1 ends in this heap; the trees are in the other one.
 fn graft_in(heap: &LocalHeap, roomy: &LocalHeap) -> Result<Ended, AllocError> {
     let host = sum_of_leaves(roomy, Place::X1, Place::X1)?;
     let scion = scaled_leaf(roomy, 0x02, Place::X2)?;
@@ -147,7 +147,7 @@ fn graft_in(heap: &LocalHeap, roomy: &LocalHeap) -> Result<Ended, AllocError> {
     }
 }
 
-// Whether these are the trees that were to be grafted.
+/// Whether these are the trees that were to be grafted.
 fn are_given_back<A: Allocator, B: Allocator>(
     host: &Tree<A>,
     scion: &Tree<B>,
@@ -162,7 +162,7 @@ fn are_given_back<A: Allocator, B: Allocator>(
     }
 }
 
-// Whether the graft is refused at each of its three allocations in turn, and gives both trees back.
+/// Whether the graft is refused at each of its three allocations in turn, and gives both trees back.
 fn grafts_in_turn(alloc: Global) -> Result<bool, AllocError> {
     let roomy = LocalHeap::new(alloc, LARGEST)?;
     let mut refused = Refused { next: 0 };
@@ -180,13 +180,13 @@ fn grafts_in_turn(alloc: Global) -> Result<bool, AllocError> {
     Ok(false)
 }
 
-// Else a refusal isn't said, or another tree is given back.
+/// Else a refusal isn't said, or another tree is given back.
 #[test]
 fn graft_refused_gives_both_trees_back(rt: HostRuntime) {
     assert!(&rt; grafts_in_turn(rt.alloc()) == Ok(true));
 }
 
-// How planning ends in this heap, where the plan is to be the same as another.
+/// How planning ends in this heap, where the plan is to be the same as another.
 fn plan_in_heap<A: Allocator>(
     heap: &LocalHeap,
     code: Code,
@@ -204,7 +204,7 @@ fn plan_in_heap<A: Allocator>(
     }
 }
 
-// How solving ends with its plan in this heap.
+/// How solving ends with its plan in this heap.
 fn solve_in_heap(alloc: Global, heap: &LocalHeap, request: &Request, answer: Answer) -> Ended {
     match solve(alloc, heap, request) {
         Ok(outcome) if is_outcome(&outcome, answer) => Ended::Granted,
@@ -213,8 +213,8 @@ fn solve_in_heap(alloc: Global, heap: &LocalHeap, request: &Request, answer: Ans
     }
 }
 
-// Whether a case's plan is refused at each of its allocations in turn, and then is the same as without refusal, and its request is refused
-// at the same ones, and then is answered.
+/// Whether a case's plan is refused at each of its allocations in turn, and then is the same as without refusal, and its request is refused
+/// at the same ones, and then is answered.
 fn solves_in_turn(alloc: Global, case: &Case) -> Result<bool, AllocError> {
     let Some(request) = request_of(alloc, case)? else {
         return Ok(false);
@@ -239,7 +239,7 @@ fn solves_in_turn(alloc: Global, case: &Case) -> Result<bool, AllocError> {
     Ok(false)
 }
 
-// How both end in this heap.
+/// How both end in this heap.
 fn both_in_heap<A: Allocator>(
     alloc: Global,
     heap: &LocalHeap,
@@ -255,7 +255,7 @@ fn both_in_heap<A: Allocator>(
     }
 }
 
-// A plan that is made elsewhere than in the heap meets fewer refusals than it has allocations.
+/// A plan that is made elsewhere than in the heap meets fewer refusals than it has allocations.
 #[test]
 fn plans_of_answers_are_made_where_asked(rt: HostRuntime) {
     for case in cases() {

@@ -13,7 +13,7 @@ use lrc_plan::{Tree, evaluate, evaluate_both, plan_in};
 use std::alloc::{AllocError, Allocator, Global};
 use std::thread::Threads;
 
-// The sample in the heap, copied out of an arena that then ends; nothing where the copy differs.
+/// The sample in the heap, copied out of an arena that then ends; nothing where the copy differs.
 fn copied_sample(alloc: Global) -> Result<Option<Tree<Global>>, AllocError> {
     let bump = Bump::new(alloc);
     let inside = sample(&bump)?;
@@ -24,7 +24,7 @@ fn copied_sample(alloc: Global) -> Result<Option<Tree<Global>>, AllocError> {
     Ok(Some(outside))
 }
 
-// Whether a tree has the coefficients of the sample.
+/// Whether a tree has the coefficients of the sample.
 fn has_coefficients(tree: &Tree<Global>) -> bool {
     let coefficients = tree.coefficients();
     let bytes = [0, 3, 3, 0, 0, 0, 0, 0, 0, 0];
@@ -36,7 +36,7 @@ fn has_coefficients(tree: &Tree<Global>) -> bool {
     true
 }
 
-// Whether the copy is still the sample after its arena.
+/// Whether the copy is still the sample after its arena.
 fn copy_outlives(alloc: Global) -> Result<bool, AllocError> {
     let Some(outside) = copied_sample(alloc)? else {
         return Ok(false);
@@ -50,7 +50,7 @@ fn copy_outlives_its_arena(rt: HostRuntime) {
     assert!(&rt; copy_outlives(rt.alloc()) == Ok(true));
 }
 
-// (x1 + x2) + px
+/// (x1 + x2) + px
 fn three_leaves(alloc: Global) -> Result<Tree<Global>, AllocError>
     ensures { IfOk result (λ t. form_of t ≡ Sum (Sum (Leaf X1) (Leaf X2)) (Leaf Px)) }
 {
@@ -59,7 +59,7 @@ fn three_leaves(alloc: Global) -> Result<Tree<Global>, AllocError>
     Ok(Tree::Sum(left, right))
 }
 
-// The value tree of a request, planned in an arena that then ends.
+/// The value tree of a request, planned in an arena that then ends.
 fn value_tree(alloc: Global, request: &Request) -> Result<Option<Tree<Global>>, AllocError>
     ensures { IfOk result (λ o. IfSome o (λ t. CanEvaluate request.now (form_of t))) }
 {
@@ -77,7 +77,7 @@ fn value_tree(alloc: Global, request: &Request) -> Result<Option<Tree<Global>>, 
     }
 }
 
-// Whether `evaluate_both` gives these bytes at so many forks.
+/// Whether `evaluate_both` gives these bytes at so many forks.
 fn gives<R: Threads + Sync>(
     rt: &R,
     alloc: Global,
@@ -92,7 +92,7 @@ fn gives<R: Threads + Sync>(
     Ok(both.as_slice() == bytes)
 }
 
-// Whether it gives them without a fork, at two, and at the most.
+/// Whether it gives them without a fork, at two, and at the most.
 fn gives_at_any_forks<R: Threads + Sync>(
     rt: &R,
     alloc: Global,
@@ -110,7 +110,7 @@ fn gives_at_any_forks<R: Threads + Sync>(
     Ok(true)
 }
 
-// What the value tree of a case's request gives.
+/// What the value tree of a case's request gives.
 #[derive(Clone, Copy, PartialEq, Eq)]
 enum Given {
     // There is none.
@@ -137,7 +137,7 @@ fn given_by_value_tree<R: Threads + Sync>(
     }
 }
 
-// What a tree that can be evaluated gives.
+/// What a tree that can be evaluated gives.
 fn given_by_tree<R: Threads + Sync>(
     rt: &R,
     alloc: Global,
@@ -158,7 +158,7 @@ fn given_by_tree<R: Threads + Sync>(
     }
 }
 
-// How many of the cases are rebuilt by a value tree; none where one gives other bytes.
+/// How many of the cases are rebuilt by a value tree; none where one gives other bytes.
 fn rebuilt_by_value_trees<R: Threads + Sync>(
     rt: &R,
     alloc: Global,
@@ -182,14 +182,14 @@ fn value_trees_give_the_same_bytes_at_any_forks(rt: HostRuntime) -> Result<(), A
     Ok(())
 }
 
-// The value of twelve data, a sum within a sum eleven times. Forks above 4 count as 4, so four threads are started; a script counts them.
+/// The value of twelve data, a sum within a sum eleven times. Forks above 4 count as 4, so four threads are started; a script counts them.
 #[test]
 fn the_most_forks_give_both_values(rt: HostRuntime) -> Result<(), AllocError> {
     assert!(&rt; are_given_at_most_forks(&rt, rt.alloc())?);
     Ok(())
 }
 
-// Whether the value tree has twelve leaves and gives the known byte at the most forks.
+/// Whether the value tree has twelve leaves and gives the known byte at the most forks.
 fn are_given_at_most_forks<R: Threads + Sync>(rt: &R, alloc: Global) -> Result<bool, AllocError> {
     let Some(request) = request_of(alloc, &wide_cases()[1])? else {
         return Ok(false);
@@ -200,15 +200,15 @@ fn are_given_at_most_forks<R: Threads + Sync>(rt: &R, alloc: Global) -> Result<b
     }
 }
 
-// Of few allocations, so that a script can refuse each of them in turn: the answer is then out of memory or these
-// bytes.
+/// Of few allocations, so that a script can refuse each of them in turn: the answer is then out of memory or these
+/// bytes.
 #[test]
 fn two_forks_give_both_values(rt: HostRuntime) -> Result<(), AllocError> {
     assert!(&rt; are_given_at_two_forks(&rt, rt.alloc())?);
     Ok(())
 }
 
-// Whether the three others of a group survive, and their sum is the known byte at two forks.
+/// Whether the three others of a group survive, and their sum is the known byte at two forks.
 fn are_given_at_two_forks<R: Threads + Sync>(rt: &R, alloc: Global) -> Result<bool, AllocError> {
     let Some(request) = request_of(alloc, &cases()[0])? else {
         return Ok(false);

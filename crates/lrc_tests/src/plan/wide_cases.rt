@@ -7,7 +7,7 @@ pub fn wide_cases() -> &'static [Case; 9] {
     &WIDE_CASES
 }
 
-// Most are over the stripe with x0 = x5 = 01, y0 = 02, px 00, py 02, p0 72, p1 A6 and no other data, worked out by hand.
+/// Most are over the stripe with x0 = x5 = 01, y0 = 02, px 00, py 02, p0 72, p1 A6 and no other data, worked out by hand.
 static WIDE_CASES: [Case; 9] = [
     Case {
         name: "the six others of the group alone",

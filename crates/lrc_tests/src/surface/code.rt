@@ -2,7 +2,7 @@
 //! codes and plans.
 use lrc_code::{Code, Outcome, Place, PlaceSet, RequestFault, reduce, reduce_in};
 
-// A place's index: there are no other places.
+/// A place's index: there are no other places.
 fn index_of(place: Place) -> usize {
     match place {
         Place::X0 => 0,
@@ -24,7 +24,7 @@ fn index_of(place: Place) -> usize {
     }
 }
 
-// The number of a refusal: there are no others.
+/// The number of a refusal: there are no others.
 fn number_of(fault: RequestFault) -> u8 {
     match fault {
         RequestFault::BadStripe => 1,
@@ -36,7 +36,7 @@ fn number_of(fault: RequestFault) -> u8 {
     }
 }
 
-// Whether an outcome is one that isn't rebuilt.
+/// Whether an outcome is one that isn't rebuilt.
 fn has_no_bytes(outcome: &Outcome) -> bool {
     match outcome {
         Outcome::Rebuilt(_) => false,
@@ -44,7 +44,7 @@ fn has_no_bytes(outcome: &Outcome) -> bool {
     }
 }
 
-// Whether each index is that of a place.
+/// Whether each index is that of a place.
 fn are_indexes() -> bool {
     for index in 0..16usize {
         match Place::from_index(index) {
@@ -55,7 +55,7 @@ fn are_indexes() -> bool {
     true
 }
 
-// Whether a set without a code is reduced as in the (6,2,2) code.
+/// Whether a set without a code is reduced as in the (6,2,2) code.
 fn is_reduced_narrow(set: PlaceSet) -> bool {
     reduce(set).pivot(0) == reduce_in(Code::Narrow, set).pivot(0)
 }

@@ -5,14 +5,14 @@ use lrc_field::laws::{
 };
 use lrc_field::{Gf, add_into, scale_add_into};
 
-// Whether the calls of an element give what they must.
+/// Whether the calls of an element give what they must.
 fn are_called(a: Gf, b: Gf) -> bool {
     a.add(b).byte() == 0x01
         && a.mul(b).byte() == 0x06
         && matches!(a.inverse(), Some(i) if i.byte() == 0x8e)
 }
 
-// What the calls over slices leave of a byte.
+/// What the calls over slices leave of a byte.
 fn summed() -> [u8; 1] {
     let mut dst = [0x80u8];
     add_into(&mut dst, &[0x01]);

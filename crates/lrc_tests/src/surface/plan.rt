@@ -4,7 +4,7 @@ use lrc_code::Place;
 use lrc_plan::{Plan, Tree};
 use std::alloc::{Allocator, Global};
 
-// A node's place and scalar.
+/// A node's place and scalar.
 fn node<A: Allocator>(tree: &Tree<A>) -> (Option<Place>, Option<u8>) {
     match tree {
         Tree::Leaf(place) => (Some(*place), None),
@@ -13,7 +13,7 @@ fn node<A: Allocator>(tree: &Tree<A>) -> (Option<Place>, Option<u8>) {
     }
 }
 
-// Whether a plan of one leaf has just that.
+/// Whether a plan of one leaf has just that.
 fn is_leaf(alloc: Global) -> bool {
     let Plan { value, checks } = Plan {
         value: Some(Tree::Leaf(Place::X1)),

@@ -121,7 +121,7 @@ pub(crate) fn defined<'a>(
 }
 
 impl Argument {
-    // Its definition.
+    /// Its definition.
     fn definition<'a>(&self, alloc: Global) -> Arg<'a> {
         let mut arg = self.of_form(alloc).help(self.help);
         if let Some(letter) = self.short {
@@ -133,7 +133,7 @@ impl Argument {
         arg
     }
 
-    // Its name and what it takes.
+    /// Its name and what it takes.
     fn of_form<'a>(&self, alloc: Global) -> Arg<'a> {
         let arg = Arg::new(alloc, self.id);
         match self.form {

@@ -25,7 +25,7 @@ pub(crate) const LAYOUT: Argument = Argument {
     ..TEXT
 };
 
-// The pattern of names that a store has if no other is given.
+/// The pattern of names that a store has if no other is given.
 const DEFAULT_NAMES: &str = "{stripe}.{place}";
 
 /// How the fragments of a store are named.
@@ -51,7 +51,7 @@ impl<'a> Naming<'a> {
     }
 }
 
-// The layout of a name that the parser let pass.
+/// The layout of a name that the parser let pass.
 fn layout_of(name: Option<&str>) -> Layout {
     match name {
         Some("groups") => Layout::Groups,

@@ -56,7 +56,7 @@ impl<'a> StoreOptions<'a> {
     }
 }
 
-// The part that a text says, as `3/10`.
+/// The part that a text says, as `3/10`.
 fn part_of(text: Option<&str>) -> Result<Option<Part>, UsageFault>
     ensures { IfOk result (λ part. IfSome part (λ p. (1 ≤ p.index) × (p.index ≤ p.of))) }
 {

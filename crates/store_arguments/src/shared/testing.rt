@@ -93,7 +93,7 @@ impl<'a> TestOptions<'a> {
     }
 }
 
-// The number of threads that a text says.
+/// The number of threads that a text says.
 fn workers_of(text: &str) -> Result<usize, UsageFault>
     ensures { IfOk result (λ workers. (1 ≤ workers) × (workers ≤ 16)) }
 {
@@ -107,7 +107,7 @@ fn workers_of(text: &str) -> Result<usize, UsageFault>
     Ok(workers)
 }
 
-// The number of bytes that a text says: digits, and behind them K, M or G for as many times 2 to the 10th, 20th or 30th power.
+/// The number of bytes that a text says: digits, and behind them K, M or G for as many times 2 to the 10th, 20th or 30th power.
 fn rate_of(text: Option<&str>) -> Result<Option<u64>, UsageFault>
     ensures { IfOk result (λ rate. IfSome rate (λ bytes. 1 ≤ bytes)) }
 {
@@ -124,7 +124,7 @@ fn rate_of(text: Option<&str>) -> Result<Option<u64>, UsageFault>
     }
 }
 
-// A number's digits, and how many bytes each of it is.
+/// A number's digits, and how many bytes each of it is.
 fn with_unit(text: &str) -> (&str, u64) {
     if let Some(digits) = text.strip_suffix('K') {
         return (digits, 1_024);

@@ -31,7 +31,7 @@ pub fn list(rt: &HostRuntime, options: &ListOptions<'_>) -> Result<u8, FileFault
     Ok(if store.has_unlisted { DEVICE } else { DONE })
 }
 
-// What is there of a stripe and of its descriptions.
+/// What is there of a stripe and of its descriptions.
 fn file_of<'a>(
     rt: &HostRuntime,
     store: &OpenStore,
@@ -59,7 +59,7 @@ fn file_of<'a>(
     })
 }
 
-// How many bytes a description says, and whether all descriptions that there should be are as they should be.
+/// How many bytes a description says, and whether all descriptions that there should be are as they should be.
 fn described(
     rt: &HostRuntime,
     store: &OpenStore,
@@ -79,7 +79,7 @@ fn described(
     Ok((bytes, found.findings.is_empty()))
 }
 
-// Whether some survivors determine all fragments.
+/// Whether some survivors determine all fragments.
 fn are_determined(
     alloc: Global,
     store: &OpenStore,

@@ -10,15 +10,15 @@ use store_reading::{CopyWork, DescribedStripe, tend_descriptions};
 use store_repair::{Reason, Stripe, StripeLength, stripe_length};
 use store_reports::{Rows, header_of, listed, request_lines, unknown_lines, unlisted_lines};
 
-// What was found of all stripes.
+/// What was found of all stripes.
 #[derive(Clone, Copy)]
 struct Counts {
     lost: u64,
-    // How many of the lost fragments can't be asked for.
+    /// How many of the lost fragments can't be asked for.
     unlisted: u64,
-    // Whether something isn't as it should be that no count has.
+    /// Whether something isn't as it should be that no count has.
     is_left: bool,
-    // Whether the system refused to show something.
+    /// Whether the system refused to show something.
     is_device: bool,
 }
 
@@ -34,7 +34,7 @@ pub fn lost(rt: &HostRuntime, options: &LostOptions<'_>) -> Result<u8, FileFault
     ))
 }
 
-// Writes the request list of an open store.
+/// Writes the request list of an open store.
 fn write_requests<'a>(
     rt: &'a HostRuntime,
     store: &'a OpenStore,
@@ -73,7 +73,7 @@ fn write_requests<'a>(
     Ok(status_of(&counts))
 }
 
-// The exit status.
+/// The exit status.
 fn status_of(counts: &Counts) -> u8 {
     if counts.is_device {
         DEVICE
@@ -84,7 +84,7 @@ fn status_of(counts: &Counts) -> u8 {
     }
 }
 
-// The requests for what is lost of a stripe, which is counted. What can't be asked for, or looked at, is said.
+/// The requests for what is lost of a stripe, which is counted. What can't be asked for, or looked at, is said.
 fn requests_of(
     rt: &HostRuntime,
     site: &Site<'_>,
@@ -111,7 +111,7 @@ fn requests_of(
     }
 }
 
-// Says which copies of a stripe's description aren't as they should be, and whether there are any.
+/// Says which copies of a stripe's description aren't as they should be, and whether there are any.
 fn say_descriptions(rt: &HostRuntime, site: &Site<'_>, stripe: &Stripe<'_>) -> io::Result<bool> {
     let described = DescribedStripe {
         name: stripe.name,
@@ -126,8 +126,8 @@ fn say_descriptions(rt: &HostRuntime, site: &Site<'_>, stripe: &Stripe<'_>) -> i
     Ok(!descriptions.findings.is_empty())
 }
 
-// How many bytes each fragment of a stripe has, 0 where none is there; none where the files' lengths differ and no check says which is
-// right, which is said.
+/// How many bytes each fragment of a stripe has, 0 where none is there; none where the files' lengths differ and no check says which is
+/// right, which is said.
 fn length_of(
     rt: &HostRuntime,
     files: &FolderStore<'_, SystemFolder<'_>>,

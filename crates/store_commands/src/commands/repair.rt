@@ -30,17 +30,33 @@ pub fn repair<R: Threads + Sync>(
     refuse_outputs(system, &options.test)?;
     let opening = opening_of(options);
     let store = open_store(system, &opening)?;
+    let ended = repair_open(rt, system, &store, &opening, options);
+    if ended.is_err() {
+        // Also one that is refused leaves no lock; why it was is what is said.
+        let _ = store.locks.release(system);
+    }
+    ended
+}
+
+/// Repairs the stripes of an open store, and gives its locks back.
+fn repair_open<R: Threads + Sync>(
+    rt: &R,
+    system: &HostRuntime,
+    store: &OpenStore,
+    opening: &Opening<'_>,
+    options: &RepairOptions<'_>,
+) -> Result<u8, FileFault> {
     let stripes = store.stripes(system)?;
     if !options.dry_run {
         refuse_long(system, store.code, stripes.as_slice())?;
     }
     let repair = repair_of(store.code, options);
-    let task = repair_task(system.alloc(), &store, &repair, stripes.as_slice())?;
+    let task = repair_task(system.alloc(), store, &repair, stripes.as_slice())?;
     let is_quiet = options.test.quiet || options.dry_run;
     let counters = counters_of(system, task, is_quiet, &options.test, opening.folder)?;
     let opened = Opened {
-        store: &store,
-        opening: &opening,
+        store,
+        opening,
         stripes: stripes.as_slice(),
         counters: &counters,
     };
@@ -52,7 +68,7 @@ pub fn repair<R: Threads + Sync>(
     )
 }
 
-// Refuses stripes of which fragments are lost that are longer than files may get here: the system would end the run at the first of them.
+/// Refuses stripes of which fragments are lost that are longer than files may get here: the system would end the run at the first of them.
 fn refuse_long(rt: &HostRuntime, code: Code, stripes: &[Stripe<'_>]) -> Result<(), FileFault> {
     if most_file_bytes(rt).is_none() {
         return Ok(());
@@ -67,7 +83,7 @@ fn refuse_long(rt: &HostRuntime, code: Code, stripes: &[Stripe<'_>]) -> Result<(
     Ok(())
 }
 
-// A store that is opened to be repaired, or to plan that.
+/// A store that is opened to be repaired, or to plan that.
 fn opening_of<'a>(options: &RepairOptions<'a>) -> Opening<'a> {
     let access = if options.dry_run {
         Access::Reads
@@ -90,14 +106,14 @@ fn opening_of<'a>(options: &RepairOptions<'a>) -> Opening<'a> {
     }
 }
 
-// How a repair ended whose locks were then given back.
+/// How a repair ended whose locks were then given back.
 fn ended(status: io::Result<u8>, released: io::Result<()>) -> io::Result<u8> {
     let status = status?;
     released?;
     Ok(status)
 }
 
-// The begin of the names of unfinished files, by the part of the store that a run works on.
+/// The begin of the names of unfinished files, by the part of the store that a run works on.
 fn tag_of(alloc: Global, part: Option<Part>) -> Result<String, AllocError> {
     match part {
         Some(part) => tag_of_part(alloc, part.index, part.of),
@@ -105,7 +121,7 @@ fn tag_of(alloc: Global, part: Option<Part>) -> Result<String, AllocError> {
     }
 }
 
-// Repairs the stripes of an open store.
+/// Repairs the stripes of an open store.
 fn repair_all<R: Threads + Sync>(
     rt: &R,
     system: &HostRuntime,
@@ -134,7 +150,7 @@ fn repair_all<R: Threads + Sync>(
     Ok(status)
 }
 
-// Repairs the stripes of a store at a site.
+/// Repairs the stripes of a store at a site.
 fn repair_at<'a, R: Threads + Sync>(
     rt: &R,
     system: &HostRuntime,
@@ -161,7 +177,7 @@ fn repair_at<'a, R: Threads + Sync>(
     say_repaired(system, &results, &rows, held, options)
 }
 
-// Whether no stripe fits the code that the places say, which then is said. A code that was given is believed, and a part may have others.
+/// Whether no stripe fits the code that the places say, which then is said. A code that was given is believed, and a part may have others.
 fn is_refused(
     rt: &HostRuntime,
     store: &OpenStore,
@@ -182,7 +198,7 @@ fn is_refused(
     }
 }
 
-// How stripes are repaired, by the options.
+/// How stripes are repaired, by the options.
 fn repair_of(code: Code, options: &RepairOptions<'_>) -> Repair {
     Repair {
         code,
@@ -193,7 +209,7 @@ fn repair_of(code: Code, options: &RepairOptions<'_>) -> Repair {
     }
 }
 
-// Says what became of the stripes and, unless as few survivors were read as it takes, what no check covered; gives the exit status.
+/// Says what became of the stripes and, unless as few survivors were read as it takes, what no check covered; gives the exit status.
 fn say_repaired(
     rt: &HostRuntime,
     results: &Results<'_>,

@@ -38,7 +38,7 @@ pub fn scrub<R: Threads + Sync>(
     )
 }
 
-// Tests the stripes of an open store.
+/// Tests the stripes of an open store.
 fn scrub_all<R: Threads + Sync>(
     rt: &R,
     system: &HostRuntime,
@@ -51,7 +51,7 @@ fn scrub_all<R: Threads + Sync>(
     scrub_at(rt, system, opened, test, &site)
 }
 
-// Tests the stripes of a store at a site.
+/// Tests the stripes of a store at a site.
 fn scrub_at<'a, R: Threads + Sync>(
     rt: &R,
     system: &HostRuntime,
@@ -74,7 +74,7 @@ fn scrub_at<'a, R: Threads + Sync>(
     say_scrubbed(system, &results, &rows, held, test)
 }
 
-// Says what isn't as it should be, and gives the exit status.
+/// Says what isn't as it should be, and gives the exit status.
 fn say_scrubbed(
     rt: &HostRuntime,
     results: &Results<'_>,

@@ -7,7 +7,7 @@ use std::sync::atomic::{AtomicU64, Ordering};
 use store_faults::{DEVICE, FileFault, say, words_of};
 use store_progress::{Progress, Turns};
 
-// The least time between two writes, in milliseconds.
+/// The least time between two writes, in milliseconds.
 const BETWEEN: u64 = 5_000;
 
 /// Where the counters of a command go, if they are wanted: a path, the store that they are of, and what is counted.
@@ -17,7 +17,7 @@ pub(crate) struct CountersFile<'a> {
     store: &'a str,
     pub(crate) progress: Arc<Progress, Global>,
     turns: Turns,
-    // 1 while a thread writes.
+    /// 1 while a thread writes.
     is_taken: AtomicU64,
 }
 
@@ -51,7 +51,7 @@ impl<'a> CountersFile<'a> {
         self.is_taken.store(0, Ordering::SeqCst);
     }
 
-    // Writes the counters, and the status of a command that has ended.
+    /// Writes the counters, and the status of a command that has ended.
     fn write(&self, rt: &HostRuntime, path: &str, status: Option<u8>) -> io::Result<()> {
         let text = self.progress.counters(rt, self.store, status)?;
         write_report(rt, path, text.as_str())

@@ -19,7 +19,7 @@ pub(crate) fn write_report(rt: &HostRuntime, path: &str, rows: &str) -> io::Resu
     }
 }
 
-// Makes the file, if nothing is there.
+/// Makes the file, if nothing is there.
 fn make(rt: &HostRuntime, path: &str, rows: &str) -> io::Result<Placed> {
     allow_file(rt, rows.len() as u64)?;
     let file = NewFile::create_as_user(rt, rt.alloc(), folder_of(path))?;
@@ -27,8 +27,8 @@ fn make(rt: &HostRuntime, path: &str, rows: &str) -> io::Result<Placed> {
     place_new(rt, file, path)
 }
 
-// Replaces a regular file by one with its owner and rights. Where no file can be made beside it, or who runs this can't give it that
-// owner, it is written as it is.
+/// Replaces a regular file by one with its owner and rights. Where no file can be made beside it, or who runs this can't give it that
+/// owner, it is written as it is.
 fn replace(rt: &HostRuntime, path: &str, there: &Metadata, rows: &str) -> io::Result<()> {
     allow_file(rt, rows.len() as u64)?;
     let file = match NewFile::create_private(rt, rt.alloc(), folder_of(path)) {
@@ -52,7 +52,7 @@ fn replace(rt: &HostRuntime, path: &str, there: &Metadata, rows: &str) -> io::Re
     }
 }
 
-// The file with the rows, or without its name after a failure.
+/// The file with the rows, or without its name after a failure.
 fn filled(rt: &HostRuntime, file: NewFile, rows: &str) -> io::Result<NewFile> {
     let mut file = file;
     match file.append(rows.as_bytes()) {
@@ -64,7 +64,7 @@ fn filled(rt: &HostRuntime, file: NewFile, rows: &str) -> io::Result<NewFile> {
     }
 }
 
-// Writes the rows into what is at a path.
+/// Writes the rows into what is at a path.
 fn write_into(rt: &HostRuntime, path: &str, rows: &str) -> io::Result<()> {
     // A limit on the length of files holds of regular ones alone.
     if fs::metadata(rt, path).map_or(true, |there| there.is_file()) {

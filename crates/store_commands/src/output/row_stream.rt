@@ -7,8 +7,8 @@ use store_folder::Alone;
 use store_progress::allow_output;
 use store_reports::{Done, RowSource, Rows, add_alone, add_stripe};
 
-// What became of the printing: nothing has failed, standard output may get no longer, or the system's number of what has failed is this
-// more.
+/// What became of the printing: nothing has failed, standard output may get no longer, or the system's number of what has failed is this
+/// more.
 const FINE: u64 = 0;
 
 const TOO_LONG: u64 = 1;
@@ -19,7 +19,7 @@ const FAILED: u64 = 2;
 #[derive(Drop)]
 pub(crate) struct RowStream<'a> {
     source: RowSource<'a>,
-    // 1 while a thread prints.
+    /// 1 while a thread prints.
     is_taken: AtomicU64,
     state: AtomicU64,
 }
@@ -53,7 +53,7 @@ impl<'a> RowStream<'a> {
         Ok(())
     }
 
-    // Prints what was held back, if nothing has failed until now.
+    /// Prints what was held back, if nothing has failed until now.
     fn print(&self, rt: &HostRuntime, held: &mut String) -> Result<(), AllocError> {
         if held.is_empty() || self.state.load(Ordering::SeqCst) != FINE {
             held.clear();

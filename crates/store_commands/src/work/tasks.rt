@@ -48,7 +48,7 @@ pub(crate) fn scrub_task(store: &OpenStore, stripes: &[Stripe<'_>]) -> Task {
     }
 }
 
-// How often each fragment is read: where there are digests once more, for its own.
+/// How often each fragment is read: where there are digests once more, for its own.
 fn passes_over(store: &OpenStore) -> u64 {
     if store.sums.is_some() { 2 } else { 1 }
 }

@@ -21,7 +21,7 @@ pub(crate) fn place_descriptions(
     Ok(())
 }
 
-// Writes a copy of a description.
+/// Writes a copy of a description.
 fn place_description(
     rt: &HostRuntime,
     target: &mut Target<'_>,

@@ -54,7 +54,7 @@ pub(crate) fn source_digest(rt: &HostRuntime, given: &Given<'_>) -> Result<Diges
     read_digest(rt, given).map_err(|error| source_fault(rt.alloc(), given.path, error))
 }
 
-// The digest of a file that is encoded, which has to have as many bytes as before.
+/// The digest of a file that is encoded, which has to have as many bytes as before.
 fn read_digest(rt: &HostRuntime, given: &Given<'_>) -> io::Result<Digest> {
     let length = given.before.len();
     let file = CountedSource {
@@ -65,7 +65,7 @@ fn read_digest(rt: &HostRuntime, given: &Given<'_>) -> io::Result<Digest> {
     digest_of(rt.alloc(), &file, length as usize)
 }
 
-// Makes the fragments of a file, under temporary names.
+/// Makes the fragments of a file, under temporary names.
 fn make_fragments(
     rt: &HostRuntime,
     target: &Target<'_>,
@@ -99,7 +99,7 @@ fn make_fragments(
     Ok(made)
 }
 
-// Writes the fragments of a file into new files, and gives their digests.
+/// Writes the fragments of a file into new files, and gives their digests.
 fn fill<F: Fragment>(
     rt: &HostRuntime,
     target: &Target<'_>,
@@ -119,8 +119,8 @@ fn fill<F: Fragment>(
     digests_at(rt, target, files, fragment_length(target.code, length))
 }
 
-// A new file for each fragment of a stripe, in the folder that the fragment is to be in. Where one is refused, the others are removed
-// again.
+/// A new file for each fragment of a stripe, in the folder that the fragment is to be in. Where one is refused, the others are removed
+/// again.
 fn new_files(rt: &HostRuntime, target: &Target<'_>, stripe: &str) -> Result<Vec<NewFile>, FileFault>
     ensures { IfOk result (λ v. vec_len v ≡ length (tables_of target.now.code).places) }
 {
@@ -139,7 +139,7 @@ fn new_files(rt: &HostRuntime, target: &Target<'_>, stripe: &str) -> Result<Vec<
     Ok(files)
 }
 
-// A new file for the fragment of a stripe at a place.
+/// A new file for the fragment of a stripe at a place.
 fn new_file_at(
     rt: &HostRuntime,
     target: &Target<'_>,
@@ -156,7 +156,7 @@ fn new_file_at(
     }
 }
 
-// Removes new files, all that can be removed.
+/// Removes new files, all that can be removed.
 fn discard_files(
     rt: &HostRuntime,
     target: &Target<'_>,
@@ -169,7 +169,7 @@ fn discard_files(
     done.map_err(|error| device(rt.alloc(), target.folder, error))
 }
 
-// The digests of new files of so many bytes, which are read again.
+/// The digests of new files of so many bytes, which are read again.
 fn digests_at(
     rt: &HostRuntime,
     target: &Target<'_>,
@@ -196,7 +196,7 @@ fn digests_at(
     Ok(digests)
 }
 
-// Why a file can't be made in a folder, with what to do if that isn't there.
+/// Why a file can't be made in a folder, with what to do if that isn't there.
 fn unmade(error: io::Error) -> io::Error {
     if error.kind() != ErrorKind::NotFound {
         return error;
@@ -218,7 +218,7 @@ pub(crate) fn new_file(
     NewFile::create_as_user(rt, rt.alloc(), folder)
 }
 
-// What the system refused of a file that is encoded from one path, or of its fragments, at the other.
+/// What the system refused of a file that is encoded from one path, or of its fragments, at the other.
 fn encode_fault(alloc: Global, source: &str, fragments: &str, fault: MendFault) -> FileFault {
     match fault {
         MendFault::OutOfMemory | MendFault::Several { .. } => FileFault::OutOfMemory,

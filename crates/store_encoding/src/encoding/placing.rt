@@ -11,7 +11,7 @@ pub(crate) struct Made {
     pub(crate) digest: Digest,
 }
 
-// What is under a name.
+/// What is under a name.
 #[derive(Clone, Copy, PartialEq, Eq)]
 enum There {
     Nothing,
@@ -40,7 +40,7 @@ pub(crate) fn discard_all(
     done.map_err(|error| device(rt.alloc(), folder, error))
 }
 
-// What is under the name at a path, beside a file of a length and a digest.
+/// What is under the name at a path, beside a file of a length and a digest.
 fn what_is_there(
     rt: &HostRuntime,
     path: &str,
@@ -93,7 +93,7 @@ pub(crate) fn place_fragments(
     sync_folders(rt, target, names)
 }
 
-// The first of the names under which there is another file than the one at its index.
+/// The first of the names under which there is another file than the one at its index.
 fn first_taken<'n>(
     rt: &HostRuntime,
     target: &Target<'_>,
@@ -112,7 +112,7 @@ fn first_taken<'n>(
     Ok(None)
 }
 
-// Writes the names of the folders that some names are in to the disk, each folder's once where its names follow each other.
+/// Writes the names of the folders that some names are in to the disk, each folder's once where its names follow each other.
 fn sync_folders(rt: &HostRuntime, target: &Target<'_>, names: &[String]) -> Result<(), FileFault> {
     let alloc = rt.alloc();
     let mut last = String::new(alloc);

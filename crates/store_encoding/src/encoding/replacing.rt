@@ -74,9 +74,9 @@ pub(crate) fn finish_replacing(
     Ok(remove_own_folders(rt, target, staged, name)?)
 }
 
-// Gives the files of a stripe the names of another one's, if they are whole, writes the digests, and takes their own names away. At each
-// moment no other path has changed, or all of the stripe's files are there, or each of the other names has its file and the digests are
-// there, also after a crash.
+/// Gives the files of a stripe the names of another one's, if they are whole, writes the digests, and takes their own names away. At each
+/// moment no other path has changed, or all of the stripe's files are there, or each of the other names has its file and the digests are
+/// there, also after a crash.
 fn end<F: Folder>(
     rt: &HostRuntime,
     files: &mut F,
@@ -99,7 +99,7 @@ fn end<F: Folder>(
     remove_all(rt, files, target, begun)
 }
 
-// Takes the names of a stripe's files away, its descriptions first.
+/// Takes the names of a stripe's files away, its descriptions first.
 fn remove_all<F: Folder>(
     rt: &HostRuntime,
     files: &mut F,
@@ -112,7 +112,7 @@ fn remove_all<F: Folder>(
     remove_names(rt, files, target, begun.fragments.as_slice())
 }
 
-// Takes the digests of some names out of those of the store.
+/// Takes the digests of some names out of those of the store.
 fn forget_digests(target: &mut Target<'_>, names: &[String])
     ensures { target.new.folder ≡ target.old.folder }
 {
@@ -121,9 +121,9 @@ fn forget_digests(target: &mut Target<'_>, names: &[String])
     }
 }
 
-// Gives the files of a stripe the names of another one's too, in place of what has these, its descriptions last. Whenever that ends, each
-// path that isn't temporary has what it had, or is one of those names and has what was seen at the file of the stripe that was to get it.
-// Once it is done, each of those names has that, also after a crash, if something was there.
+/// Gives the files of a stripe the names of another one's too, in place of what has these, its descriptions last. Whenever that ends, each
+/// path that isn't temporary has what it had, or is one of those names and has what was seen at the file of the stripe that was to get it.
+/// Once it is done, each of those names has that, also after a crash, if something was there.
 fn give_all<F: Folder>(
     rt: &HostRuntime,
     files: &mut F,
@@ -148,7 +148,7 @@ fn give_all<F: Folder>(
     )
 }
 
-// Removes what has the names of an old file's fragments where the new one's at the same index was lost meanwhile.
+/// Removes what has the names of an old file's fragments where the new one's at the same index was lost meanwhile.
 fn remove_old<F: Folder>(
     rt: &HostRuntime,
     files: &mut F,
@@ -166,7 +166,7 @@ fn remove_old<F: Folder>(
     Ok(())
 }
 
-// Removes what has another name if nothing has this one: so the other has what this one has.
+/// Removes what has another name if nothing has this one: so the other has what this one has.
 fn remove_lost<F: Folder>(
     rt: &HostRuntime,
     files: &mut F,
@@ -186,7 +186,7 @@ fn remove_lost<F: Folder>(
     remove_names(rt, files, target, slice::from_ref(other))
 }
 
-// Whether nothing is at a path.
+/// Whether nothing is at a path.
 fn is_lost<F: Folder>(rt: &HostRuntime, files: &mut F, path: &str) -> Result<bool, FileFault>
     ensures kept { KeepsEach (F.calls files.old) (F.calls files.new) }
     ensures lost { IfOk result (λ is. is ≡ true → IsAbsent path.now (F.calls files.new)) }
@@ -197,7 +197,7 @@ fn is_lost<F: Folder>(rt: &HostRuntime, files: &mut F, path: &str) -> Result<boo
     }
 }
 
-// Gives the files of some names each the name at its index too, in place of what has it, and notes their digests.
+/// Gives the files of some names each the name at its index too, in place of what has it, and notes their digests.
 fn give_names<F: Folder>(
     rt: &HostRuntime,
     files: &mut F,
@@ -216,7 +216,7 @@ fn give_names<F: Folder>(
     Ok(())
 }
 
-// Gives the file of a name another name too, if there is one, in place of what has that, and notes its digest.
+/// Gives the file of a name another name too, if there is one, in place of what has that, and notes its digest.
 fn give_one<F: Folder>(
     rt: &HostRuntime,
     files: &mut F,
@@ -243,7 +243,7 @@ fn give_one<F: Folder>(
     }
 }
 
-// Notes that the file of a name has another name too: the digest of the one is that of the other.
+/// Notes that the file of a name has another name too: the digest of the one is that of the other.
 fn note_digest(
     alloc: Global,
     target: &mut Target<'_>,

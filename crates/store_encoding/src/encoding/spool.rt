@@ -5,7 +5,7 @@ use store_folder::NewFile;
 use store_progress::{most_file_bytes, too_long};
 use store_repair::NewFragment;
 
-// How many bytes are read at once.
+/// How many bytes are read at once.
 const BLOCK: usize = 262_144;
 
 /// A file with what standard input had. A run that is killed leaves it under a name of those that the next run removes.
@@ -43,7 +43,7 @@ impl Spool {
     }
 }
 
-// Writes standard input to a new file.
+/// Writes standard input to a new file.
 fn copy(rt: &HostRuntime, file: &mut NewFile) -> io::Result<()> {
     let most = most_file_bytes(rt).unwrap_or(u64::MAX);
     let mut block = Vec::from_elem(rt.alloc(), 0u8, BLOCK)?;

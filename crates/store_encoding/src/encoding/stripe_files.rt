@@ -62,7 +62,7 @@ pub(crate) fn are_apart(folder: &str, files: &StripeFiles, others: &StripeFiles)
     share_none(files.descriptions.as_slice(), fragments, descriptions)
 }
 
-// Whether no name is one that files have which aren't whole yet, or that of the digests.
+/// Whether no name is one that files have which aren't whole yet, or that of the digests.
 fn are_own(names: &[String]) -> bool
     ensures { result ≡ list_all is_own names.now }
 {
@@ -75,7 +75,7 @@ fn is_own(name: &str) -> bool
     is_free(name) && name != SUMS_NAME
 }
 
-// Whether none of the names is one of some others.
+/// Whether none of the names is one of some others.
 fn share_none(names: &[String], fragments: &[String], descriptions: &[String]) -> bool
     ensures { result ≡ list_all (shares_none fragments.now descriptions.now) names.now }
 {

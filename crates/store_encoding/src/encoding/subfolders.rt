@@ -33,7 +33,7 @@ pub(crate) fn make_folders(
     Ok(())
 }
 
-// Makes the folder of a name in the store, unless it is there, and writes its name to the disk.
+/// Makes the folder of a name in the store, unless it is there, and writes its name to the disk.
 fn make_folder(rt: &HostRuntime, target: &Target<'_>, name: &str) -> io::Result<()> {
     refuse_linked_folders(rt, target.folder, name, target.links)?;
     let path = path_in(rt.alloc(), target.folder, name)?;

@@ -45,7 +45,7 @@ pub fn write_new_sums<F: Folder>(
     write_sums(rt, files, target.folder, &target.sums)
 }
 
-// Writes the digests of a store, in place of those that are there.
+/// Writes the digests of a store, in place of those that are there.
 fn write_sums<F: Folder>(
     rt: &HostRuntime,
     files: &mut F,
@@ -64,7 +64,7 @@ fn write_sums<F: Folder>(
     }
 }
 
-// Writes a text to a file in place of the one at a path, if a file may be so long.
+/// Writes a text to a file in place of the one at a path, if a file may be so long.
 fn write_text<F: Folder>(rt: &HostRuntime, files: &mut F, path: &str, text: &[u8]) -> io::Result<()>
     ensures whenever { PutsOne path.now (Some text.now) (F.calls files.old) (F.calls files.new) }
     ensures done { OnOk result (IsOnDisk path.now text.now (F.calls files.new)) }

@@ -57,7 +57,7 @@ pub fn device(alloc: Global, path: &str, error: io::Error) -> FileFault {
     }
 }
 
-// What the system refused at a path, in its words.
+/// What the system refused at a path, in its words.
 fn device_words(alloc: Global, path: &str, error: String) -> FileFault {
     match String::from_str(alloc, path) {
         Ok(path) => FileFault::Device { path, error },

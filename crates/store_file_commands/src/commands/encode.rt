@@ -29,7 +29,7 @@ pub fn encode<R: Threads + Sync>(
     Ok(status)
 }
 
-// Encodes files into a folder out of which other runs are kept.
+/// Encodes files into a folder out of which other runs are kept.
 fn encode_locked<R: Threads + Sync>(
     threads: &R,
     rt: &HostRuntime,
@@ -59,14 +59,14 @@ fn encode_locked<R: Threads + Sync>(
     Ok(status.max(unclean))
 }
 
-// How many files were encoded, and the exit status that the others ask for.
+/// How many files were encoded, and the exit status that the others ask for.
 #[derive(Clone, Copy)]
 struct Encoded {
     count: u64,
     status: u8,
 }
 
-// The work on the files, each of which is digested and then encoded.
+/// The work on the files, each of which is digested and then encoded.
 fn task_of(rt: &HostRuntime, options: &EncodeOptions<'_>) -> Task {
     let mut bytes = 0u64;
     for path in &options.files {
@@ -80,12 +80,12 @@ fn task_of(rt: &HostRuntime, options: &EncodeOptions<'_>) -> Task {
     }
 }
 
-// How long a file is, as far as the system says it.
+/// How long a file is, as far as the system says it.
 fn length_of(rt: &HostRuntime, path: &str) -> u64 {
     fs::metadata(rt, path).map_or(0, |metadata| metadata.len())
 }
 
-// Encodes the files one after the other, and says why one isn't.
+/// Encodes the files one after the other, and says why one isn't.
 fn encode_all<R: Threads + Sync>(
     threads: &R,
     rt: &HostRuntime,
@@ -113,7 +113,7 @@ fn encode_all<R: Threads + Sync>(
     Ok(done)
 }
 
-// Encodes a file, or what standard input has.
+/// Encodes a file, or what standard input has.
 fn encode_one<R: Threads + Sync>(
     threads: &R,
     rt: &HostRuntime,
@@ -143,7 +143,7 @@ fn encode_one<R: Threads + Sync>(
     removed
 }
 
-// Makes the store's folder, unless it is there.
+/// Makes the store's folder, unless it is there.
 fn make_folder(rt: &HostRuntime, folder: &str) -> Result<(), FileFault> {
     match fs::create_dir(rt, folder) {
         Ok(()) => Ok(()),
@@ -152,7 +152,7 @@ fn make_folder(rt: &HostRuntime, folder: &str) -> Result<(), FileFault> {
     }
 }
 
-// What is in the store that is encoded into. As root, it is refused where others may write, unless they are trusted.
+/// What is in the store that is encoded into. As root, it is refused where others may write, unless they are trusted.
 fn listed(rt: &HostRuntime, options: &EncodeOptions<'_>) -> Result<Listing, FileFault> {
     let pattern = options.naming.pattern;
     let code = if pattern.has_shards() {
@@ -184,7 +184,7 @@ fn listed(rt: &HostRuntime, options: &EncodeOptions<'_>) -> Result<Listing, File
     Ok(listing)
 }
 
-// The store that is encoded into, refused where it has fragments of the other code.
+/// The store that is encoded into, refused where it has fragments of the other code.
 fn target_of<'o>(
     rt: &HostRuntime,
     options: &EncodeOptions<'o>,

@@ -22,7 +22,7 @@ pub fn read(rt: &HostRuntime, options: &ReadOptions<'_>) -> Result<u8, FileFault
     Ok(DONE)
 }
 
-// Writes a file to a path, and shows how far that is.
+/// Writes a file to a path, and shows how far that is.
 fn read_shown(
     rt: &HostRuntime,
     file: &StoredFile<'_, '_>,

@@ -29,7 +29,7 @@ pub fn remove(rt: &HostRuntime, options: &RemoveOptions<'_>) -> Result<u8, FileF
     Ok(status)
 }
 
-// Takes files out of an open store.
+/// Takes files out of an open store.
 fn remove_all(
     rt: &HostRuntime,
     options: &RemoveOptions<'_>,
@@ -65,7 +65,7 @@ fn remove_all(
     Ok(status)
 }
 
-// The store that files are taken out of.
+/// The store that files are taken out of.
 fn target_of<'o>(
     rt: &HostRuntime,
     options: &RemoveOptions<'o>,

@@ -59,7 +59,7 @@ pub fn verify(rt: &HostRuntime, options: &VerifyOptions<'_>) -> Result<u8, FileF
     Ok(status)
 }
 
-// How long files of these names are together.
+/// How long files of these names are together.
 fn bytes_of(
     rt: &HostRuntime,
     options: &VerifyOptions<'_>,
@@ -79,7 +79,7 @@ fn bytes_of(
     Ok(bytes)
 }
 
-// How long a file is, as far as a description says it.
+/// How long a file is, as far as a description says it.
 fn length_of(rt: &HostRuntime, file: &StoredFile<'_, '_>) -> Result<u64, FileFault> {
     Ok(match first_described(rt, file)? {
         Some(described) => described.length,
@@ -87,7 +87,7 @@ fn length_of(rt: &HostRuntime, file: &StoredFile<'_, '_>) -> Result<u64, FileFau
     })
 }
 
-// The names that are given, or those of all files of the store.
+/// The names that are given, or those of all files of the store.
 fn names_of(rt: &HostRuntime, options: &VerifyOptions<'_>) -> Result<Vec<String>, FileFault> {
     let alloc = rt.alloc();
     let mut names = Vec::new(alloc);

@@ -75,7 +75,7 @@ impl Seen {
     }
 }
 
-// What is at the path of a copy.
+/// What is at the path of a copy.
 fn state_at(rt: &HostRuntime, site: &Site<'_>, path: &str) -> Result<CopyState, AllocError> {
     let error = match read_description(rt, path, site.links) {
         Ok(Some(described)) => {

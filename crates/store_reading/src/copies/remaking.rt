@@ -11,7 +11,7 @@ use store_files::{Sought, StoredFile};
 use store_folder::{Described, Digest, Site};
 use store_repair::{MendFault, NewFragment, fragment_length, read_file};
 
-// What is kept of a file that may end at several bytes: the digest up to the first of them, and the bytes after it.
+/// What is kept of a file that may end at several bytes: the digest up to the first of them, and the bytes after it.
 #[derive(Drop)]
 struct Ends {
     head: Sha256,
@@ -63,7 +63,7 @@ pub(crate) fn described_as(
     Ok(None)
 }
 
-// The file of at most so many bytes that the fragments of a stripe give; none where they don't determine it or can't be read.
+/// The file of at most so many bytes that the fragments of a stripe give; none where they don't determine it or can't be read.
 fn ends_of(
     rt: &HostRuntime,
     site: &Site<'_>,

@@ -49,7 +49,7 @@ pub(crate) fn some_that_fit(
     }
 }
 
-// All fragments but one, if they give the file.
+/// All fragments but one, if they give the file.
 fn without_one(
     rt: &HostRuntime,
     sought: &Sought<'_, '_>,
@@ -74,7 +74,7 @@ fn without_one(
     Ok(None)
 }
 
-// All fragments but two, if they give the file.
+/// All fragments but two, if they give the file.
 fn without_two(
     rt: &HostRuntime,
     sought: &Sought<'_, '_>,
@@ -108,7 +108,7 @@ fn without_two(
     Ok(None)
 }
 
-// The fragments that have the digests of the store's sums, or that they don't name; all, where there are no sums.
+/// The fragments that have the digests of the store's sums, or that they don't name; all, where there are no sums.
 fn with_digests(
     rt: &HostRuntime,
     sought: &Sought<'_, '_>,

@@ -68,7 +68,7 @@ pub(crate) fn write_at(
     Ok(true)
 }
 
-// Writes the file to what is at a path and is no regular file, if the fragments give it, which is known before its first byte is written.
+/// Writes the file to what is at a path and is no regular file, if the fragments give it, which is known before its first byte is written.
 fn write_through(
     rt: &HostRuntime,
     sought: &Sought<'_, '_>,
@@ -85,14 +85,14 @@ fn write_through(
     Ok(true)
 }
 
-// Opens what is at a path and is no regular file.
+/// Opens what is at a path and is no regular file.
 fn opened(rt: &HostRuntime, path: &str) -> io::Result<File> {
     let mut options = File::options();
     options.write(true).truncate(true);
     options.open(rt, path)
 }
 
-// Refuses a path in the store's own folder, which may have its digests, or in one that has fragments of it.
+/// Refuses a path in the store's own folder, which may have its digests, or in one that has fragments of it.
 fn refuse_in_store(rt: &HostRuntime, sought: &Sought<'_, '_>, path: &str) -> Result<(), FileFault> {
     let alloc = rt.alloc();
     let Ok(folder) = fs::metadata(rt, folder_of(path)) else {
@@ -114,8 +114,8 @@ fn refuse_in_store(rt: &HostRuntime, sought: &Sought<'_, '_>, path: &str) -> Res
     Ok(())
 }
 
-// The file under a temporary name beside a path, with the owner and the rights of what is there, if the fragments give it: as all of them
-// have it, or, where that isn't the file that is described, as some do that have it.
+/// The file under a temporary name beside a path, with the owner and the rights of what is there, if the fragments give it: as all of them
+/// have it, or, where that isn't the file that is described, as some do that have it.
 fn write_new(
     rt: &HostRuntime,
     sought: &Sought<'_, '_>,
@@ -137,14 +137,14 @@ fn write_new(
     }
 }
 
-// A file that is the one that is described, under a temporary name; or why what was written isn't, which then is removed.
+/// A file that is the one that is described, under a temporary name; or why what was written isn't, which then is removed.
 #[derive(Drop)]
 enum Written {
     Right(NewFile),
     Wrong(FileFault),
 }
 
-// Writes the file as these fragments have it.
+/// Writes the file as these fragments have it.
 fn write_from(
     rt: &HostRuntime,
     sought: &Sought<'_, '_>,
@@ -177,7 +177,7 @@ fn write_from(
     }
 }
 
-// A new file beside a path.
+/// A new file beside a path.
 fn new_beside(rt: &HostRuntime, path: &str, there: Option<&Metadata>) -> io::Result<NewFile> {
     let folder = folder_of(path);
     match there {
@@ -186,7 +186,7 @@ fn new_beside(rt: &HostRuntime, path: &str, there: Option<&Metadata>) -> io::Res
     }
 }
 
-// Why what was written isn't the file that is described, if it isn't; or why it couldn't be written.
+/// Why what was written isn't the file that is described, if it isn't; or why it couldn't be written.
 fn ended(
     alloc: Global,
     sought: &Sought<'_, '_>,
@@ -203,7 +203,7 @@ fn ended(
     }
 }
 
-// Removes a file that isn't the one that is described, and gives why; or why it can't be removed.
+/// Removes a file that isn't the one that is described, and gives why; or why it can't be removed.
 fn removed(rt: &HostRuntime, file: NewFile, path: &str, fault: FileFault) -> FileFault {
     match file.discard(rt) {
         Ok(()) => fault,
@@ -211,7 +211,7 @@ fn removed(rt: &HostRuntime, file: NewFile, path: &str, fault: FileFault) -> Fil
     }
 }
 
-// Gives a file the owner and the rights of what it replaces.
+/// Gives a file the owner and the rights of what it replaces.
 fn taken_after(file: &NewFile, there: Option<&Metadata>) -> io::Result<()> {
     if let Some(there) = there {
         file.take_after(there)?;

@@ -50,7 +50,7 @@ pub(crate) fn open_fragments(
     Ok(Fragments { set, opened })
 }
 
-// Opens a fragment; where that isn't possible, says so.
+/// Opens a fragment; where that isn't possible, says so.
 fn open_at(
     rt: &HostRuntime,
     sought: &Sought<'_, '_>,
@@ -75,7 +75,7 @@ fn open_at(
     }
 }
 
-// Opens the fragment of a name in the store.
+/// Opens the fragment of a name in the store.
 fn open_below(
     rt: &HostRuntime,
     sought: &Sought<'_, '_>,

@@ -12,14 +12,14 @@ use store_files::Sought;
 use store_progress::{Counted, allow_output};
 use store_repair::{MendFault, NewFragment, read_file};
 
-// What is written to. A type parameter in its place would leave open that it fits in memory.
+/// What is written to. A type parameter in its place would leave open that it fits in memory.
 #[derive(Drop)]
 enum Sink<'a> {
     Standard(BufWriter<Printer<'a, HostRuntime>>),
     Opened(BufWriter<File>),
 }
 
-// What is written to, and the digest of what was written.
+/// What is written to, and the digest of what was written.
 #[derive(Drop)]
 struct Output<'a> {
     sink: Sink<'a>,
@@ -70,7 +70,7 @@ pub(crate) fn write_into(
     write_to(rt, sought, fragments, set, Sink::Opened(writer), path)
 }
 
-// Writes the file to what has this name.
+/// Writes the file to what has this name.
 fn write_to(
     rt: &HostRuntime,
     sought: &Sought<'_, '_>,
@@ -99,7 +99,7 @@ fn write_to(
     }
 }
 
-// Why the file couldn't be read, or not be written to what has this name.
+/// Why the file couldn't be read, or not be written to what has this name.
 fn unread(alloc: Global, sought: &Sought<'_, '_>, name: &str, fault: MendFault) -> FileFault {
     match fault {
         MendFault::Unwritten { error, .. } => device(alloc, name, error),
@@ -108,7 +108,7 @@ fn unread(alloc: Global, sought: &Sought<'_, '_>, name: &str, fault: MendFault) 
     }
 }
 
-// Ends the output, which is the file that is described unless a fragment has changed since it was tested.
+/// Ends the output, which is the file that is described unless a fragment has changed since it was tested.
 fn ended(
     alloc: Global,
     sought: &Sought<'_, '_>,
@@ -124,7 +124,7 @@ fn ended(
     Ok(())
 }
 
-// Writes what is still kept.
+/// Writes what is still kept.
 fn flushed(sink: Sink<'_>) -> io::Result<()> {
     match sink {
         Sink::Standard(writer) => {
