@@ -31,8 +31,6 @@ import timed  # noqa: E402
 BELOW = pathlib.Path(os.environ.get(build.PROVED_IN) or ROOT)
 # What names the function of an edit.
 FUNCTION = re.compile(r"^refused in: (\S+)$", re.M)
-# By how much the priority is lower than that of proofs, since nothing waits for these.
-NICER = 5
 # What the prover says where an edit can't be read, and of a proof that cites a name that isn't there.
 UNREAD_WORDS = "is not in scope|has no field|is no name|operand is missing|cannot continue"
 UNREAD = re.compile(rf"^(?:\./)?(?:src|specs)/\S+:\d+:\d+: error: .*(?:{UNREAD_WORDS})", re.M)
@@ -96,8 +94,8 @@ def try_one(crate, edit, function, room):
             shutil.copytree(crate.folder / part, place / part)
     edits.edited(edit, place)
     with open(said, "w") as out:
-        process = subprocess.Popen(command(crate, function, room / "kept"), cwd=place, stdin=subprocess.DEVNULL, stdout=out,
-                                   stderr=subprocess.STDOUT, preexec_fn=lambda: os.nice(NICER))
+        words = command(crate, function, room / "kept")
+        process = subprocess.Popen(words, cwd=place, stdin=subprocess.DEVNULL, stdout=out, stderr=subprocess.STDOUT)
         ended = os.wait4(process.pid, 0)
     process.returncode = os.waitstatus_to_exitcode(ended[1])
     text = said.read_text(errors="replace")

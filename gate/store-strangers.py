@@ -15,6 +15,7 @@ import pathlib
 import pty
 import random
 import re
+import resource
 import shutil
 import signal
 import stat
@@ -352,6 +353,28 @@ def test_locks(place, choose):
         for part in ("1/3", "2/3", "3/3"):
             run("repair", store, "--part", part, status=0)
         hold((store / "s.x0").read_bytes() == files["s.x0"], "the fragment isn't what it was")
+
+
+def test_locks_of_refused_runs(place, choose):
+    """A repair that is refused before it begins, by the limit on files' lengths, leaves no lock of its part."""
+    store = place / "refused"
+    files = lay(store, choose, length=5_000)
+    (store / "s.x0").unlink()
+    before = there(store)
+
+    def limit():
+        resource.setrlimit(resource.RLIMIT_FSIZE, (4_000, 4_000))
+
+    statuses = []
+    for part in ("1/2", "2/2"):
+        ended = subprocess.run([PROGRAM, "repair", store, "--part", part], capture_output=True, text=True, preexec_fn=limit)
+        statuses.append(ended.returncode)
+        hold(ended.returncode == 0 or "ulimit -f" in ended.stderr, ended.stderr)
+        hold(there(store) == before, f"part {part} left {sorted(there(store))}")
+    hold(sorted(statuses) == [0, 1], f"{statuses}")
+    for part in ("1/2", "2/2"):
+        run("repair", store, "--part", part, status=0)
+    hold(there(store) == files, "the store isn't what it was")
 
 
 @contextlib.contextmanager
@@ -826,6 +849,35 @@ def test_descriptions_of_before(place, choose):
     del whole["SHA256SUMS"]
     hold(below(store) == {**whole, "note.file": line}, "the copies weren't made")
     run("scrub", store, *DISKS, status=0)
+    # Replacing the file leaves no description of the old one.
+    source = place / "note"
+    source.write_bytes(choose.randbytes(2_002))
+    for words in (["--replace"], []):
+        run("encode", *words, store, source, *DISKS, status=0)
+        hold("note.file" not in below(store), "the old description stays")
+        run("scrub", store, *DISKS, status=0)
+    ended = subprocess.run([PROGRAM, "read", store, "note", *DISKS[2:]], capture_output=True)
+    hold(ended.returncode == 0 and ended.stdout == source.read_bytes(), ended.stderr.decode())
+
+
+def test_descriptions_that_cannot_be_read(place, choose):
+    """A description that the system refuses to read is a failed device for each command, and is said once; where none can be read the file
+    can't be either."""
+    store, data, _ = encoded_disks(place, choose)
+    copies = [store / f"disk{number}/note.file" for number in range(10)]
+    for many in (1, 10):
+        for copy in copies[:many]:
+            copy.unlink()
+            copy.symlink_to("note.file")
+        for command in ("scrub", "lost", "read"):
+            words = ["note", *DISKS[2:]] if command == "read" else DISKS
+            ended = subprocess.run([PROGRAM, command, store, *words, "--follow-links"], capture_output=True)
+            said = ended.stderr.decode()
+            is_read = command == "read" and many == 1
+            hold(ended.returncode == (0 if is_read else 3), f"{command}: status {ended.returncode}: {said}")
+            hold(command != "read" or ended.stdout == (data if is_read else b""), "other bytes are read")
+            for copy in copies[:many]:
+                hold(said.count(f"{copy.parent.name}/note.file: ") == 1, said)
 
 
 def test_descriptions_in_one_folder(place, choose):
@@ -1049,9 +1101,16 @@ def test_dry_run(place, choose):
         hold(f"; {count} can be rebuilt (0 unchecked){more}, 1 can't" in said, said)
         rows = report.read_text()
         hold(rows.count(",would be rebuilt,") == count and ",rebuilt," not in rows, rows)
+        hold("rebuilt unchecked" not in said, said)
         hold(below(store) == before, "a dry run changed the store")
     said = run("repair", store, "--replace-damaged", status=1)
     hold("repaired 2 fragments" in said and "not possible: 1" in said, said)
+    many = place / "many-lost"
+    lay(many, choose)
+    for lost in ("x0", "x1", "y0", "p0"):
+        (many / f"s.{lost}").unlink()
+    said = run("repair", many, "--dry-run", status=1)
+    hold(said.count(": would be rebuilt unchecked: ") == 4 and ": rebuilt unchecked" not in said, said)
     damaged = place / "damaged"
     lay(damaged, choose)
     (damaged / "s.x0").write_bytes(bytes(600))

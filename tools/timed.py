@@ -25,6 +25,8 @@ import time
 ROOT = pathlib.Path(__file__).resolve().parent.parent
 # What was timed, one thing on a line.
 TIMES = ROOT / "out" / "gate-times"
+# By how much the priority of the scripts beside them is lower than that of proofs, so that they take what these leave.
+NICER = "15"
 # Seconds between two looks at the processes.
 BETWEEN = 1
 TICKS = os.sysconf("SC_CLK_TCK")
@@ -153,7 +155,7 @@ def proofs(beside, command):
         def start_beside(those, **proved):
             for crate, script in those:
                 left.remove((crate, script))
-                scripts.append(subprocess.Popen([script], env={**os.environ, **proved}))
+                scripts.append(subprocess.Popen(["nice", "-n", NICER, script], env={**os.environ, **proved}))
                 waits.append(pool.submit(end, [script], scripts[-1], time.monotonic()))
 
         try:

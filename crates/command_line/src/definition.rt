@@ -66,6 +66,7 @@ pub(crate) fn program<'a>(alloc: Global) -> Result<Command<'a>, AllocError>
         .subcommand(farm)
 }
 
+/// The command `farm`, with its folders and its two numbers.
 fn farm_command<'a>(alloc: Global) -> Result<Command<'a>, AllocError>
     ensures app { IfOk result (λ c. app_of c ≡ farm) }
     ensures local { IfOk result (λ c. has_globals c ≡ false) }
@@ -80,6 +81,7 @@ fn farm_command<'a>(alloc: Global) -> Result<Command<'a>, AllocError>
         .arg(number(alloc, "queue", "16", "Q", QUEUE_HELP))
 }
 
+/// The argument that is the path of a folder; it has to be given.
 fn folder<'a>(alloc: Global, id: &'a str, shown: &'a str, help: &'a str) -> Arg<'a>
     ensures rule { rule_of result ≡ folder_rule id.entry.now }
     ensures local { result.global ≡ false }
@@ -90,6 +92,7 @@ fn folder<'a>(alloc: Global, id: &'a str, shown: &'a str, help: &'a str) -> Arg<
         .help(help)
 }
 
+/// An option that takes a whole number from 0 to 65,535, and what it is without it.
 fn number<'a>(
     alloc: Global,
     id: &'a str,

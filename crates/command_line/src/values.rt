@@ -40,12 +40,14 @@ impl<'a> FarmValues<'a> {
     }
 }
 
+/// The path that was given for this argument.
 fn folder_of<'a>(farm: &ArgMatches<'a>, id: &str) -> Option<&'a str>
     ensures { option_map (λ s. s.now) result ≡ first_of id.now (rows_of (found_of farm.now)) }
 {
     farm.get_str(id)
 }
 
+/// The number that was given for this option, or that it has without it.
 fn number_of(farm: &ArgMatches<'_>, id: &str) -> Option<u16>
     ensures some { IfSome result (HasNumber id.now (rows_of (found_of farm.now))) }
     ensures none { IfNone result ((n : ℕ) → HasNumber id.now (rows_of (found_of farm.now)) n → ⊥) }

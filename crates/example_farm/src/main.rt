@@ -11,6 +11,7 @@ use std::thread::Threads;
 /// The targets of each rack's requests.
 const TARGETS: &[&[Place]] = &[&[Place::X0, Place::Y0], &[Place::X0]];
 
+/// Prints the answers; fails if there are none.
 fn main(rt: HostRuntime) -> ExitCode {
     match answer_all(&rt, rt.alloc()) {
         Ok(answers) => show(&rt, answers.as_slice()),
@@ -47,6 +48,7 @@ fn answer_all<R: Threads + Wait + Sync>(
             return Err(FarmError::OutOfMemory);
         }
     }
+    // Neither is refused: at most 16 racks, 1 to 16 workers and a queue of 1 to 1,024 are within the limits.
     let (Ok(racks), Ok(settings)) = (Racks::new(lists), Settings::new(2, 16)) else {
         return Err(FarmError::OutOfMemory);
     };

@@ -14,6 +14,7 @@ const SURVIVORS: &[(Place, &[u8])] = &[
     (Place::Px, b"good news."),
 ];
 
+/// Prints the answer.
 fn main(rt: HostRuntime) -> ExitCode {
     let shown = match answer(rt.alloc()) {
         Ok(Outcome::Rebuilt(bytes)) => {

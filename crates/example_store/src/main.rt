@@ -5,7 +5,7 @@ use lrc_code::{Code, Place};
 use std::alloc::{AllocError, Global};
 use std::process::ExitCode;
 use store_repair::{
-    Found, MemoryStore, Outcome, Reads, Repair, Stripe, StripeFiles, repair_stripe,
+    Found, MemoryStore, Reads, Repair, Stripe, StripeFiles, StripeOutcome, repair_stripe,
 };
 
 /// The fragments of the stripe of 01 02 03 04 05 06, each of one byte, but for x0 and p1, which are lost.
@@ -20,6 +20,7 @@ const SURVIVORS: &[(Place, u8)] = &[
     (Place::P0, 0x04),
 ];
 
+/// Repairs the stripe, and prints what was rebuilt.
 fn main(rt: HostRuntime) -> ExitCode {
     let mut store = MemoryStore::new(rt.alloc());
     let Ok(outcome) = repair(rt.alloc(), &mut store) else {
@@ -35,7 +36,7 @@ fn main(rt: HostRuntime) -> ExitCode {
 }
 
 /// Puts what survives into a store, and repairs the stripe.
-fn repair(alloc: Global, store: &mut MemoryStore) -> Result<Outcome, AllocError> {
+fn repair(alloc: Global, store: &mut MemoryStore) -> Result<StripeOutcome, AllocError> {
     let mut files = StripeFiles::new();
     for (place, byte) in SURVIVORS {
         store.put("note", *place, &[*byte])?;

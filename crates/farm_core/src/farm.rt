@@ -12,7 +12,7 @@ use crate::taken::space::Space;
 use crate::taken::{Room, room_for};
 use crate::threads::all::{Started, Starts, end_all, join_all, start_all};
 use crate::threads::collecting::{Cleared, start_collector};
-use farm_orders::{FarmError, Feeds, Racks, Settings};
+use farm_orders::{FarmError, FeedAnswer, Feeds, Racks, Settings};
 use farm_threads::{Board, Lists, Pause, Refusals, Shared, SlotPause};
 use lrc_code::Outcome;
 use std::alloc::Global;
@@ -129,7 +129,7 @@ pub fn run_feeds<R: Threads + Wait + Sync, P: Pause>(
     feeds: &Feeds,
     settings: Settings,
     pause: &P,
-) -> Result<Vec<Vec<(usize, Outcome)>>, FarmError>
+) -> Result<Vec<Vec<FeedAnswer>>, FarmError>
     ensures { IfOk result (λ v. AreAllMergedAnswers feeds.now (map (λ answers. answers.items) v.items)) }
 {
     let lists = Lists::Several(feeds);

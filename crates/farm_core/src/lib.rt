@@ -23,8 +23,8 @@ mod threads;
 
 pub use farm::{run, run_feeds};
 pub use farm_orders::{
-    FarmError, Feeds, FeedsFault, Order, RackList, Racks, Settings, SettingsFault, TooManyOrders,
-    TooManyRacks, limits,
+    FarmError, FeedAnswer, Feeds, FeedsFault, Order, RackList, Racks, Settings, SettingsFault,
+    TooManyOrders, TooManyRacks, limits,
 };
 pub use farm_threads::{
     CollectFault, Collector, Fed, FinishFault, Job, NoPause, Pause, Reply, ReplyResult, Worked,

@@ -1,5 +1,7 @@
 -- Answers that fit a rack's feeds, and how many they are.
 use Rattle.std.proofs.Common.{◌≡◌, ◌<◌, ◌≤◌, ◌+◌, Vec, Global, ℕ, zero, suc, cond, List, [], ◌∷◌, All, length, map, ap, drop, get_or, refl}
+use Rattle.farm_reading.specs.Limits.{rack_answers}
+use Rattle.farm_orders.specs.Limits.{order_limit, feed_limit}
 use Rattle.std.proofs.Common.{arith, subst, inl, inr, true, false}
 use Rattle.std.specs.Prelude.{Bool, count_by, ◌==◌}
 use Rattle.std.specs.List.{AllByRecursion, AllZip}
@@ -53,10 +55,11 @@ wider : (n : ℕ) (fs : List ℕ) → n ≤ 4 → AllByRecursion (λ g. g < n) f
 wider n [] few all = tt
 wider n (x ∷ fs) few all = (omega (arith, all.0, few), wider n fs few all.1)
 
-pub few_answers : (counts fs : List ℕ) → length counts ≤ 4 → All (λ n. n ≤ 4096) counts → FitsFeeds counts fs → length fs ≤ 16384
+pub few_answers : (counts fs : List ℕ) → length counts ≤ feed_limit → All (λ n. n ≤ order_limit) counts
+    → FitsFeeds counts fs → length fs ≤ rack_answers
 few_answers counts fs feeds small fits =
     let known = recursion_from_All (λ f. f < length counts) fs fits.known in
-    let most : (f : ℕ) → count f fs ≤ 4096 = λ f. elim (cases_lt f (length counts)) [
+    let most : (f : ℕ) → count f fs ≤ order_limit = λ f. elim (cases_lt f (length counts)) [
       | inl within ↦ (let below = fits.few f within in let least = small f 0 within in omega (arith, below, least))
       | inr past ↦ (let none = none_of f fs (length counts) (omega (arith, past)) known in omega (arith, none))
     ] in
@@ -92,32 +95,33 @@ fit_counts counts (x ∷ xs) (r ∷ racks) (a ∷ answers) same fit = (
   fit_counts counts xs racks answers (ap (λ (ns : List (List ℕ)). drop 1 ns) same) fit.1,
 )
 
-counts_few : (ls : Lists) → AllByRecursion (λ (list : List Record). length list ≤ 4096) ls
-    → AllByRecursion (λ n. n ≤ 4096) (listed_counts ls)
+counts_few : (ls : Lists) → AllByRecursion (λ (list : List Record). length list ≤ order_limit) ls
+    → AllByRecursion (λ n. n ≤ order_limit) (listed_counts ls)
 counts_few [] few = tt
 counts_few (l ∷ ls) few = (omega (arith, served_few l, few.0), counts_few ls few.1)
 
-rack_few : (l : Lists) (a : Answers) → (0 < length l) × (length l ≤ 4) → All (λ (list : List Record). length list ≤ 4096) l → FitLists l a
-    → length a.items ≤ 16384
+rack_few : (l : Lists) (a : Answers) → (0 < length l) × (length l ≤ feed_limit) → All (λ (list : List Record). length list ≤ order_limit) l
+    → FitLists l a
+    → length a.items ≤ rack_answers
 rack_few l a feeds small fit =
-    let counts = counts_few l (recursion_from_All (λ (list : List Record). length list ≤ 4096) l small) in
+    let counts = counts_few l (recursion_from_All (λ (list : List Record). length list ≤ order_limit) l small) in
     let size = length-map l (λ (list : List Record). length (listed_before_close list)) in
     let few = few_answers (listed_counts l) (map (λ (x : ℕ × Outcome). x.0) a.items) (omega (arith, feeds.1, size))
-    (All-from_recursion (λ n. n ≤ 4096) (listed_counts l) counts) fit in
+    (All-from_recursion (λ n. n ≤ order_limit) (listed_counts l) counts) fit in
     omega (arith, few, length-map a.items (λ (x : ℕ × Outcome). x.0))
 
-each_few : (lists : List Lists) (answers : List Answers) → AllByRecursion (λ (l : Lists). (0 < length l) × (length l ≤ 4)) lists
-    → AllByRecursion (λ (l : Lists). All (λ (list : List Record). length list ≤ 4096) l) lists → AllZip FitLists lists answers
-    → AllByRecursion (λ (a : Answers). length a.items ≤ 16384) answers
+each_few : (lists : List Lists) (answers : List Answers) → AllByRecursion (λ (l : Lists). (0 < length l) × (length l ≤ feed_limit)) lists
+    → AllByRecursion (λ (l : Lists). All (λ (list : List Record). length list ≤ order_limit) l) lists → AllZip FitLists lists answers
+    → AllByRecursion (λ (a : Answers). length a.items ≤ rack_answers) answers
 each_few [] [] feeds small fit = tt
 each_few [] (a ∷ answers) feeds small fit = absurd fit
 each_few (l ∷ lists) [] feeds small fit = absurd fit
 each_few (l ∷ lists) (a ∷ answers) feeds small fit = (rack_few l a feeds.0 small.0 fit.0, each_few lists answers feeds.1 small.1 fit.1)
 
-pub all_few : (lists : List Lists) (answers : List Answers) → All (λ (l : Lists). (0 < length l) × (length l ≤ 4)) lists
-    → All (λ (l : Lists). All (λ (list : List Record). length list ≤ 4096) l) lists → AllZip FitLists lists answers
-    → All (λ (a : Answers). length a.items ≤ 16384) answers
+pub all_few : (lists : List Lists) (answers : List Answers) → All (λ (l : Lists). (0 < length l) × (length l ≤ feed_limit)) lists
+    → All (λ (l : Lists). All (λ (list : List Record). length list ≤ order_limit) l) lists → AllZip FitLists lists answers
+    → All (λ (a : Answers). length a.items ≤ rack_answers) answers
 all_few lists answers feeds small fit =
-    All-from_recursion (λ (a : Answers). length a.items ≤ 16384) answers
-    (each_few lists answers (recursion_from_All (λ (l : Lists). (0 < length l) × (length l ≤ 4)) lists feeds)
-    (recursion_from_All (λ (l : Lists). All (λ (list : List Record). length list ≤ 4096) l) lists small) fit)
+    All-from_recursion (λ (a : Answers). length a.items ≤ rack_answers) answers
+    (each_few lists answers (recursion_from_All (λ (l : Lists). (0 < length l) × (length l ≤ feed_limit)) lists feeds)
+    (recursion_from_All (λ (l : Lists). All (λ (list : List Record). length list ≤ order_limit) l) lists small) fit)

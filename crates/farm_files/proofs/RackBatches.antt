@@ -1,5 +1,6 @@
 -- What is answered of the first positions of a rack's feeds.
 use Rattle.std.proofs.Common.{◌≡◌, ◌<◌, ◌≤◌, ◌+◌, ◌-◌, ◌*◌, ◌++◌, ◌∙◌, ◌⊎◌, inl, inr, Bor, Global, Vec, ℕ, zero, suc, Bool, true, false}
+use Rattle.farm_orders.specs.Limits.{order_limit, feed_limit}
 use Rattle.std.proofs.Common.{All, List, [], ◌∷◌, Some, length, map, take, drop, get_or, refl, sym, ap, ap₂, subst, arith}
 use Rattle.std.specs.List.{AllZip, slice_range}
 use Rattle.std.proofs.lemmas.List.{length-append, length-map, map-append, take_all}
@@ -441,8 +442,8 @@ so_far_all shown lists reads answers us ended n few so_far =
 
 -- ---- sizes
 
-pub fronts_few : (lists : List (Vec Record Global)) (n : ℕ) → All (λ l. length l.items ≤ 4096) lists
-    → record_count (fronts lists n) ≤ 4096 * length lists
+pub fronts_few : (lists : List (Vec Record Global)) (n : ℕ) → All (λ l. length l.items ≤ order_limit) lists
+    → record_count (fronts lists n) ≤ order_limit * length lists
 fronts_few [] n few = omega arith
 fronts_few (l ∷ lists) n few =
     let here = few 0 l (omega arith) in
@@ -491,7 +492,8 @@ slice_few xs a b = let more = dropped_few a xs in let less = taken (b - a) (drop
     dropped_few (suc n) (y ∷ ys) = let less = dropped_few n ys in omega (arith, less)
 
 pub pieces_few : (lent : List (Bor (List Record))) (lists : List (Vec Record Global)) (first end : ℕ)
-    → map (λ l. l.now) lent ≡ pieces lists first end → All (λ l. length l.items ≤ 4096) lists → All (λ l. length l.now ≤ 4096) lent
+    → map (λ l. l.now) lent ≡ pieces lists first end → All (λ l. length l.items ≤ order_limit) lists
+    → All (λ l. length l.now ≤ order_limit) lent
 pieces_few [] lists first end same few k d within = absurd (omega (arith, within))
 pieces_few (l ∷ lent) [] first end same few k d within = absurd
     (let sizes = ap (λ (ls : List (List Record)). length ls) same in omega (arith, sizes))
@@ -506,7 +508,7 @@ pieces_few (l ∷ lent) (v ∷ lists) first end same few (suc k) d within =
 
 -- the device fails as often as there are survivors at most
 pub fails_few : (old before after : ℕ) (lists : List (Vec Record Global)) (first end : ℕ) → first ≤ end
-    → All (λ l. length l.items ≤ 4096) lists → length lists ≤ 4
+    → All (λ l. length l.items ≤ order_limit) lists → length lists ≤ feed_limit
     → before ≤ old + 15 * record_count (fronts lists first) → after ≤ before + 15 * record_count (pieces lists first end)
     → (after ≤ old + 15 * record_count (fronts lists end)) × (after ≤ old + 245760)
 fails_few old before after lists first end ordered few feeds so more =

@@ -8,7 +8,7 @@ ghost use Rattle.farm_files.specs.AnsweredRacks.{AreAnswered, IsAnsweredOnce, al
 ghost use Rattle.farm_reading.specs.Reading.{Reads, all_failures, rack_failures};
 
 use crate::batch_pause::BatchPause;
-use farm_core::{FarmError, Feeds, Pause, RackList, Settings, run_feeds};
+use farm_core::{FarmError, FeedAnswer, Feeds, Pause, RackList, Settings, run_feeds};
 use farm_lists::{ReadRequest, Record};
 use farm_orders::limits::MOST_ORDERS;
 use farm_reading::RackLists;
@@ -17,7 +17,6 @@ use farm_reading::cutting::{end_of_positions, end_of_racks, lists_through_close,
 use farm_reading::fragments::{read_feeds, read_piece};
 use farm_reading::rooms::rooms_of;
 use farm_shelves::{FileRead, Shelf};
-use lrc_code::Outcome;
 use std::alloc::{AllocError, Global};
 use std::mem;
 use std::sync::Wait;
@@ -26,9 +25,6 @@ use std::thread::Threads;
 /// The most bytes of memory that the survivors of a batch may take by what is listed; one request of each of four feeds takes less. Each
 /// survivor counts 512 bytes beside its own, and each request as many, so that a batch is bounded in files too.
 pub const MOST_BATCH_BYTES: u64 = 16_777_216;
-
-/// An answer: the number of the feed that lists its request, and the outcome.
-pub type FeedAnswer = (usize, Outcome);
 
 /// Of each rack the answers, each with its feed's number, and feed by feed the requests before the close, each with the places of the
 /// survivors that weren't read.

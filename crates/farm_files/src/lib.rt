@@ -24,7 +24,8 @@ mod serving;
 pub mod serving_laws;
 mod writing;
 
-pub use batches::{Answered, Batching, FeedAnswer, MOST_BATCH_BYTES, answer_lists};
+pub use batches::{Answered, Batching, MOST_BATCH_BYTES, answer_lists};
+pub use farm_core::FeedAnswer;
 pub use farm_lists::{
     ListFault, Listed, ReadRequest, Record, count_requests, list_file, read_list,
 };

@@ -11,9 +11,9 @@ ghost use Rattle.farm_files.specs.Faults.{CountsServing, LeavesOutput};
 ghost use Rattle.farm_reading.specs.Reading.{Reads, all_failures};
 ghost use Rattle.farm_files.specs.Serving.{Serves, written_files};
 
-use crate::batches::{Answered, Batching, FeedAnswer, MOST_BATCH_BYTES, answer_lists};
+use crate::batches::{Answered, Batching, MOST_BATCH_BYTES, answer_lists};
 use crate::writing::write_files;
-use farm_core::{Pause, Settings};
+use farm_core::{FeedAnswer, Pause, Settings};
 use farm_reading::{ServeFault, read_lists};
 use farm_reports::make_files;
 use farm_shelves::Shelf;

@@ -1,4 +1,5 @@
-//! A gate gives numbers, each once, to whoever draws at one of its seats, until one of its rights is spent on closing it.
+//! A gate gives numbers, each once, to whoever draws at one of its seats; it refuses draws once one of its rights was spent on closing it,
+//! or the seat's budget is spent.
 //!
 //! Each draw is one `fetch_add` and each close one `fetch_or` on one word, so no call waits for another thread. The accepted numbers
 //! of all seats are those below some number, each once; once the gate is closed, that number is the closer's answer, and stays.

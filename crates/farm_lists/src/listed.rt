@@ -67,6 +67,7 @@ fn are_places(code: Code, target: Place, survivors: &[Place]) -> bool
     code.has(target) && has_all(code, survivors)
 }
 
+/// Whether a place is in a list twice. Goes as deep as the list has places, at most sixteen that differ.
 fn has_repeated(places: &[Place]) -> bool
     ensures { result ≡ is_listed_twice places.now }
 {

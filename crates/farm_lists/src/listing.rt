@@ -233,6 +233,7 @@ fn order_in(
     }
 }
 
+/// Whether a record is a `close`: every other field is empty, and the rest of the record, which the caller has looked at, is blank.
 fn is_close(blank: bool, fields: &Fields<'_>) -> bool
     ensures { result ≡ (bytes_eq fields.now.order.now (codes "close") &&
         (length fields.now.stripe.now == 0 && (length fields.now.target.now == 0 &&
@@ -297,6 +298,7 @@ fn split_at_spaces(alloc: Global, text: &[u8]) -> Result<Vec<&[u8]>, AllocError>
     text.split(|b| *b == b' ').collect(alloc)
 }
 
+/// The places with these names; none if one of them names no place of the code.
 fn parse_names(alloc: Global, code: Code, names: &[&[u8]]) -> Result<Option<Vec<Place>>, AllocError>
     ensures { IfOk result (λ v. option_map (λ s. s.items) v ≡ every (map (λ n. place_named (tables_of code) n.now) names.now)) }
 {

@@ -4,8 +4,12 @@ ghost use Rattle.farm_orders.specs.FedLists.{AreFeeds, IsBadFeeds};
 
 use crate::limits::{MOST_FEEDS, MOST_RACKS};
 use crate::orders::RackList;
+use lrc_code::Outcome;
 use std::marker::Model;
 use thiserror::Error;
+
+/// An answer: the number of the feed that lists its request, and the outcome.
+pub type FeedAnswer = (usize, Outcome);
 
 /// The feeds of at most 16 racks, 1 to 4 lists for each. Racks, and the feeds of a rack, are numbered from 0. Contracts see the lists of
 /// orders of each rack.

@@ -21,6 +21,6 @@ mod orders;
 mod settings;
 
 pub use error::FarmError;
-pub use feeds::{Feeds, FeedsFault};
+pub use feeds::{FeedAnswer, Feeds, FeedsFault};
 pub use orders::{Order, RackList, Racks, TooManyOrders, TooManyRacks};
 pub use settings::{Settings, SettingsFault};

@@ -3,7 +3,7 @@ ghost use Rattle.std.specs.Prelude.{◌≡◌, ◌++◌, IfOk, OnOk, string_byte
 ghost use Rattle.farm_reading.specs.FarmFaults.{fault_text, list_fault_text, reason_text, reported, status_of};
 
 use crate::faults::ServeFault;
-use exit_statuses::{DEVICE, DONE, NO_RESOURCES, REFUSED};
+use command_line::{DEVICE, DONE, NO_RESOURCES, REFUSED};
 use farm_lists::{ListFault, list_file};
 use std::alloc::{AllocError, Global};
 use std::fmt::Write;

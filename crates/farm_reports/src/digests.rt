@@ -5,6 +5,7 @@ ghost use Rattle.sha2.specs.Sha256.{sha256};
 ghost use Rattle.farm_reports.specs.Report.{fragment_digest, rebuilt_fragment};
 
 use crate::grains;
+use farm_orders::FeedAnswer;
 use lrc_code::Outcome;
 use sha2::{Digest as _, Sha256};
 use sha256_lanes::Digest;
@@ -27,7 +28,7 @@ pub(crate) fn digest_of(outcome: &Outcome) -> Option<Digest>
 pub fn digests_of_racks<R: Threads + Sync>(
     rt: &R,
     alloc: Global,
-    racks: &[Vec<(usize, Outcome)>],
+    racks: &[Vec<FeedAnswer>],
     threads: usize,
 ) -> Result<Vec<Option<Digest>>, AllocError>
     requires { 0 < threads }
@@ -40,10 +41,7 @@ pub fn digests_of_racks<R: Threads + Sync>(
 }
 
 /// The outcomes of all racks, rack after rack.
-fn outcomes_of_racks(
-    alloc: Global,
-    racks: &[Vec<(usize, Outcome)>],
-) -> Result<Vec<&Outcome>, AllocError>
+fn outcomes_of_racks(alloc: Global, racks: &[Vec<FeedAnswer>]) -> Result<Vec<&Outcome>, AllocError>
     ensures { IfOk result (λ v. map (λ o. o.now) v.items ≡ flat_map (λ rack. map (λ a. a.1) rack.items) racks.now) }
 {
     let mut outcomes = Vec::new(alloc);
@@ -53,9 +51,10 @@ fn outcomes_of_racks(
     Ok(outcomes)
 }
 
+/// Adds the outcomes of a rack's answers, in order.
 fn push_outcomes<'a>(
     outcomes: &mut Vec<&'a Outcome>,
-    rack: &'a [(usize, Outcome)],
+    rack: &'a [FeedAnswer],
 ) -> Result<(), AllocError>
     ensures { OnOk result (map (λ o. o.now) outcomes.new.items ≡ map (λ o. o.now) outcomes.old.items ++ map (λ a. a.1) rack.now) }
 {
@@ -79,6 +78,7 @@ fn rebuilt_fragments<'a>(
     Ok(fragments)
 }
 
+/// Adds the bytes of an outcome, if it is a rebuilt fragment.
 fn push_fragment<'a>(fragments: &mut Vec<&'a [u8]>, outcome: &'a Outcome) -> Result<(), AllocError>
     ensures { OnOk result (map (λ f. f.now) fragments.new.items ≡ map (λ f. f.now) fragments.old.items ++ rebuilt_fragment outcome.now) }
 {

@@ -3,6 +3,8 @@ ghost use Rattle.std.specs.Prelude.{◌≡◌, ◌+◌, ◌<◌, ◌≤◌, ℕ,
 ghost use Rattle.sha2.specs.Sha256.{sha256};
 ghost use Rattle.farm_reports.specs.Grains.{AreGrains, AreRight, IsGrain, at_each};
 
+pub use farm_shelves::LEAST_PART;
+use farm_shelves::worthwhile;
 use sha2::{Digest as _, Sha256};
 use sha256_lanes::Digest;
 use std::alloc::{AllocError, Global};
@@ -13,9 +15,6 @@ use std::thread::Threads;
 
 /// How many fragments a grain has: twice as many as are digested at once.
 const GRAIN: usize = 16;
-
-/// The least number of bytes for which a thread is started, with `BLOCK` more for each fragment.
-pub const LEAST_PART: u64 = 1_048_576;
 
 /// What a fragment takes beside its bytes: a block of padding.
 pub const BLOCK: u64 = 64;
@@ -75,6 +74,7 @@ pub fn places_by_length(alloc: Global, fragments: &[&[u8]]) -> Result<Vec<usize>
     Ok(places)
 }
 
+/// The length of the fragment at a place, 0 if there is no such place.
 fn length_at(fragments: &[&[u8]], place: usize) -> usize {
     match fragments.get(place) {
         Some(fragment) => fragment.len(),
@@ -108,7 +108,7 @@ fn grains_in_threads<R: Threads + Sync>(
     ensures { IfOk result (λ v. AreGrains (map (λ f. sha256 f.now) fragments.now) v.items) }
 {
     let grains = fragments.len().div_ceil(GRAIN);
-    let threads = worthwhile(fragments, threads.min(grains));
+    let threads = threads_for(fragments, threads.min(grains));
     let room = grains
         .div_ceil(threads)
         .saturating_mul(SHARES)
@@ -119,8 +119,8 @@ fn grains_in_threads<R: Threads + Sync>(
     Ok(slots)
 }
 
-/// How many threads are worth their start for these fragments, of so many at most: each has the least part, as of files in `farm_shelves`.
-fn worthwhile(fragments: &[&[u8]], threads: usize) -> usize
+/// How many threads are worth their start for these fragments, of so many at most.
+fn threads_for(fragments: &[&[u8]], threads: usize) -> usize
     ensures some { 0 < result }
     ensures few { result ≤ max 1 threads }
 {
@@ -130,8 +130,7 @@ fn worthwhile(fragments: &[&[u8]], threads: usize) -> usize
             .saturating_add(BLOCK)
             .saturating_add(fragment.len() as u64);
     }
-    let parts = usize::try_from(bytes / LEAST_PART).unwrap_or(usize::MAX);
-    parts.min(threads).max(1)
+    worthwhile(bytes, threads)
 }
 
 /// Makes grains in threads, each with so many of the slots.
@@ -205,6 +204,7 @@ fn place_grains(slots: &[Option<Grain>], places: &[usize], digests: &mut [Option
     }
 }
 
+/// Puts the digests of a grain at the places of its fragments.
 fn place_grain(grain: &Grain, places: &[usize], digests: &mut [Option<Digest>])
     ensures { (right : List (List ℕ)) → IsGrain (at_each places.now right) grain.now → AreRight right digests.old
         → AreRight right digests.new }
@@ -242,6 +242,7 @@ fn complete(
     Ok(all)
 }
 
+/// A digest that was made, or else that of the fragment, made now.
 fn digest_or_made(digest: Option<Digest>, fragment: &[u8]) -> Digest
     requires { IfSome digest (λ d. d ≡ sha256 fragment.now) }
     ensures { result ≡ sha256 fragment.now }

@@ -11,6 +11,7 @@ use crate::digests::digests_of_racks;
 use crate::report::{ReportRow, ReportShape, merged_report_on};
 use crate::rows::{rack_rows, rack_shape};
 use farm_lists::{ReadRequest, names};
+use farm_orders::FeedAnswer;
 use lrc_code::Outcome;
 use sha256_lanes::Digest;
 use std::alloc::{AllocError, Global};
@@ -76,7 +77,7 @@ fn push_rack<'a>(
     files: &mut Vec<NamedFile<'a>>,
     rack: usize,
     requests: &'a [Vec<ReadRequest>],
-    answers: &'a [(usize, Outcome)],
+    answers: &'a [FeedAnswer],
     digests: &[Option<Digest>],
 ) -> Result<(), AllocError>
     requires answers { FitsFeeds (map (λ rs. length rs.items) requests.now) (map (λ a. a.0) answers.now) }
@@ -97,7 +98,7 @@ pub fn make_files<'a, R: Threads + Sync>(
     alloc: Global,
     threads: usize,
     racks: &'a [Vec<Vec<ReadRequest>>],
-    answers: &'a [Vec<(usize, Outcome)>],
+    answers: &'a [Vec<FeedAnswer>],
 ) -> Result<Vec<NamedFile<'a>>, AllocError>
     requires threads { 0 < threads }
     requires answers { AllZip (λ feeds os. FitsFeeds (map (λ rs. length rs.items) feeds.items)

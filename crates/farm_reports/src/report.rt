@@ -263,6 +263,7 @@ fn write_record(writer: &mut Writer<Vec<u8>>, fields: &[&[u8]]) -> Result<(), Al
     }
 }
 
+/// What a report says of an outcome.
 fn outcome_word(outcome: &Outcome) -> &'static [u8]
     ensures { result.now ≡ outcome_name outcome.now }
 {

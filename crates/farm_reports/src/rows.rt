@@ -7,6 +7,7 @@ ghost use Rattle.farm_reports.specs.Rows.{FitsFeeds, rack_rows as rows_of_rack, 
 
 use crate::report::{ReportRow, ReportShape, is_wide_request};
 use farm_lists::ReadRequest;
+use farm_orders::FeedAnswer;
 use lrc_code::Outcome;
 use std::alloc::{AllocError, Global};
 
@@ -69,7 +70,7 @@ fn answer_row<'a>(
 pub(crate) fn rack_rows<'a>(
     alloc: Global,
     requests: &'a [Vec<ReadRequest>],
-    answers: &'a [(usize, Outcome)],
+    answers: &'a [FeedAnswer],
 ) -> Result<Vec<ReportRow<'a>>, AllocError>
     requires { FitsFeeds (map (λ rs. length rs.items) requests.now) (map (λ a. a.0) answers.now) }
     ensures rows { IfOk result (λ v. map row_of v.items ≡ rows_of_rack (map (λ rs. map read_of rs.items) requests.now) answers.now) }

@@ -6,6 +6,7 @@ ghost use Rattle.farm_shelves.specs.Ahead.{IsKnown, IsListedAs, known};
 use crate::folder::FolderShelf;
 use crate::regular_files::{FIRST_ROOM, open_regular, read_front};
 use crate::shelf::{FileRead, ShelfFault};
+use crate::worth::worthwhile;
 use std::alloc::{AllocError, Global};
 use std::io::Read;
 use std::sync::Mutex;
@@ -15,9 +16,6 @@ use std::{mem, thread};
 
 /// What a file takes to be opened and closed, as the bytes that are read in that time.
 const OPENING: u64 = 16_384;
-
-/// The least number of bytes for which a thread is started, with what the opening takes.
-const LEAST_PART: u64 = 1_048_576;
 
 /// How many parts of the files there are for each thread that reads them.
 const PARTS_PER_THREAD: usize = 8;
@@ -77,8 +75,8 @@ fn room_for(alloc: Global, limit: usize, rooms: &mut Vec<Vec<u8>>) -> Result<Vec
     }
 }
 
-/// How many threads are worth their start for these files, of so many at most: each has the least part.
-fn worthwhile(files: &[ReadAhead], threads: usize) -> usize
+/// How many threads are worth their start for these files, of so many at most.
+fn threads_for(files: &[ReadAhead], threads: usize) -> usize
     ensures { 0 < result }
 {
     let mut bytes = 0u64;
@@ -87,8 +85,7 @@ fn worthwhile(files: &[ReadAhead], threads: usize) -> usize
             .saturating_add(OPENING)
             .saturating_add(file.limit as u64);
     }
-    let parts = usize::try_from(bytes / LEAST_PART).unwrap_or(usize::MAX);
-    parts.min(threads).max(1)
+    worthwhile(bytes, threads)
 }
 
 /// Files of a folder that are read in parts, each by the thread that takes it.
@@ -186,7 +183,7 @@ pub(crate) fn read_beside<H: Threads + Sync, T: Drop, E: Drop, F: Fn() -> Result
     requires work { F.pre work.now }
     ensures { F.post work.now result.1 }
 {
-    let threads = worthwhile(files.as_slice(), threads);
+    let threads = threads_for(files.as_slice(), threads);
     let done = match parts_of(alloc, folder, files.as_mut_slice(), threads) {
         Ok(parts) => work_while_reading(rt, threads, &parts, work),
         Err(_) => return (Vec::new(alloc), work()),
@@ -204,7 +201,7 @@ pub(crate) fn read_all<R: Threads + Sync>(
 ) -> Vec<ReadAhead>
     requires { IsSync R.row }
 {
-    let threads = worthwhile(files.as_slice(), threads);
+    let threads = threads_for(files.as_slice(), threads);
     let read = match parts_of(alloc, folder, files.as_mut_slice(), threads) {
         Ok(parts) => work_while_reading(rt, threads - 1, &parts, &|| parts.read_here()),
         Err(refused) => Err(refused),

@@ -17,9 +17,11 @@ mod read_ahead;
 mod regular_files;
 mod shelf;
 mod sized_file;
+mod worth;
 
 pub use folder::FolderShelf;
 pub use memory::MemoryShelf;
 pub use read_ahead::ReadAheadShelf;
 pub use regular_files::read_front;
 pub use shelf::{FileRead, Shelf, ShelfFault};
+pub use worth::{LEAST_PART, worthwhile};

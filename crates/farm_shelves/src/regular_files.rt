@@ -1,4 +1,4 @@
-//! Regular files of the system: how they are opened, and their first bytes.
+//! Regular files of the system: how they are opened, read and written; none is synced.
 ghost use Rattle.std.specs.Prelude.{◌≡◌, ◌+◌, ◌<◌, ◌≤◌, IfErr, IfOk, IfSome, OnErr, OnOk, drop, length, take};
 ghost use Rattle.std.specs.Io.KnownBytes.{Consumes, IsAtEnd, Keeps};
 ghost use Rattle.farm_shelves.specs.Folder.{found, kind_fault};

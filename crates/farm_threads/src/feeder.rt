@@ -9,7 +9,7 @@ use crate::given::Feeder;
 use crate::jobs::Job;
 use crate::pause::Pause;
 use crate::shared::{Shared, start_thread};
-use crate::slots::slot_number;
+use crate::slots::Slot;
 use crate::worker::take_mark;
 use farm_lanes::{EndedPut, Gate, PutEnd, Right, Seat, TakeEnd};
 use farm_orders::{Order, RackList};
@@ -130,7 +130,7 @@ fn feed_with<'a, R: Wait, P: Pause>(shared: &Shared<R, P>, feeder: Feeder<'a>) -
             gate,
             seat,
             right,
-            slot_number(rack, number),
+            Slot::of(rack, number).number,
             number,
             list,
             jobs,

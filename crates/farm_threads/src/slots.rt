@@ -1,4 +1,4 @@
-//! Slots: a run counts the feeds of all racks through, four to a rack. The field `rack` of its jobs and replies is a feed's slot.
+//! Slots: a run counts the feeds of all racks through, four to a rack. The field `rack` of its jobs and replies has a feed's slot.
 ghost use Rattle.std.specs.Prelude.{◌≡◌, ◌<◌};
 ghost use Rattle.farm_orders.specs.Limits.{feed_limit, rack_limit};
 ghost use Rattle.farm_threads.specs.RunFeeds.{slot_of, slot_rack, slot_feed};
@@ -6,26 +6,43 @@ ghost use Rattle.farm_threads.specs.RunFeeds.{slot_of, slot_rack, slot_feed};
 use crate::pause::Pause;
 use farm_orders::limits::MOST_FEEDS;
 
-/// The slot of a feed of a rack.
-pub fn slot_number(rack: usize, feed: usize) -> usize
-    requires few { (rack < rack_limit) × (feed < feed_limit) }
-    ensures { result ≡ slot_of rack feed }
-{
-    rack * MOST_FEEDS + feed
+/// A feed of a rack, by its number in a run.
+#[derive(Clone, Copy, Debug, PartialEq, Eq)]
+pub struct Slot {
+    pub number: usize,
 }
 
-/// The rack of a slot.
-pub fn rack_of_slot(slot: usize) -> usize
-    ensures { result ≡ slot_rack slot }
-{
-    slot / MOST_FEEDS
+impl Slot {
+    /// The slot of a feed of a rack.
+    pub fn of(rack: usize, feed: usize) -> Slot
+        requires few { (rack < rack_limit) × (feed < feed_limit) }
+        ensures { result.number ≡ slot_of rack feed }
+    {
+        Slot {
+            number: rack * MOST_FEEDS + feed,
+        }
+    }
+
+    /// Its rack.
+    pub fn rack(self) -> usize
+        ensures { result ≡ slot_rack self.number }
+    {
+        self.number / MOST_FEEDS
+    }
+
+    /// Its feed, by its number in the rack.
+    pub fn feed(self) -> usize
+        ensures { result ≡ slot_feed self.number }
+    {
+        self.number % MOST_FEEDS
+    }
 }
 
-/// The feed of a slot, by its number in its rack.
-pub fn feed_of_slot(slot: usize) -> usize
-    ensures { result ≡ slot_feed slot }
+/// The rack of the slot with a number.
+fn rack_of(number: usize) -> usize
+    ensures { result ≡ slot_rack number }
 {
-    slot % MOST_FEEDS
+    Slot { number }.rack()
 }
 
 /// Gives a pause the racks of the slots that workers and feeders name.
@@ -36,18 +53,18 @@ pub struct SlotPause<'p, P> {
 
 impl<'p, P: Pause> Pause for SlotPause<'p, P> {
     fn before(&self, slot: usize, number: u64) {
-        self.pause.before(rack_of_slot(slot), number);
+        self.pause.before(rack_of(slot), number);
     }
 
     fn after(&self, slot: usize, number: u64) {
-        self.pause.after(rack_of_slot(slot), number);
+        self.pause.after(rack_of(slot), number);
     }
 
     fn ahead(&self, slot: usize, feed: usize, position: usize) {
-        self.pause.ahead(rack_of_slot(slot), feed, position);
+        self.pause.ahead(rack_of(slot), feed, position);
     }
 
     fn behind(&self, slot: usize, feed: usize, position: usize) {
-        self.pause.behind(rack_of_slot(slot), feed, position);
+        self.pause.behind(rack_of(slot), feed, position);
     }
 }

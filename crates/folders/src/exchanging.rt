@@ -20,7 +20,8 @@ pub struct Exchanged<W> {
 ///
 /// # Errors
 ///
-/// The file couldn't be written to the disk, or one of the paths couldn't be given.
+/// The file or the second path's folder couldn't be written to the disk, one of the paths couldn't be given, or
+/// what is at the paths couldn't be looked at.
 pub fn exchange<F: Folder>(
     folder: &mut F,
     file: F::New,

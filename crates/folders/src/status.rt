@@ -1,5 +1,7 @@
 //! What a file system says of what is at a path.
+use std::fs::Metadata;
 use std::io::ErrorKind;
+use std::os::unix::fs::MetadataExt;
 
 /// What is at a path.
 #[derive(Clone, Copy, Debug, PartialEq, Eq)]
@@ -15,6 +17,16 @@ pub enum Kind {
 pub struct Identity {
     pub device: u64,
     pub node: u64,
+}
+
+impl Identity {
+    /// That of what is said of something.
+    pub fn of(metadata: &Metadata) -> Identity {
+        Identity {
+            device: metadata.dev(),
+            node: metadata.ino(),
+        }
+    }
 }
 
 /// When something was changed, in seconds since 1970 and billionths of one.

@@ -52,6 +52,7 @@ impl<'a> SystemFolder<'a> {
         }
     }
 
+    /// Notes a call in what was recorded, with whether it ended well.
     fn note(&mut self, call: &Call<'_>, is_ok: bool)
         ensures { self.new.past.calls ≡ recorded call.now is_ok ∷ self.old.past.calls }
     {
@@ -59,6 +60,7 @@ impl<'a> SystemFolder<'a> {
     }
 }
 
+/// What the system says of something, in the terms of `folders`.
 fn status_of(metadata: &Metadata) -> Status {
     let kind = if metadata.is_file() {
         Kind::File
@@ -72,10 +74,7 @@ fn status_of(metadata: &Metadata) -> Status {
     Status {
         kind,
         length: metadata.len(),
-        identity: Identity {
-            device: metadata.dev(),
-            node: metadata.ino(),
-        },
+        identity: Identity::of(metadata),
         rights: Rights {
             user: metadata.uid(),
             group: metadata.gid(),

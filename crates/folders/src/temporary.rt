@@ -34,6 +34,7 @@ fn held<F: Folder>(folder: &mut F, file: F::New, path: &str) -> io::Result<Optio
     }
 }
 
+/// Locks a new file, so that no other run takes it for a leftover; whether it still has a path then.
 fn is_held<N: NewFile>(file: &N) -> io::Result<bool> {
     Ok(file.try_lock()? && file.status()?.paths > 0)
 }

@@ -1,4 +1,4 @@
-//! Bytes as hexadecimal digits. The loops have no branch on a digit, so that they run over many of them at once.
+//! Bytes as hexadecimal digits. The loops over many digits have no branch on one of them, so that they run over several at once.
 ghost use Rattle.std.specs.Prelude.{◌≡◌, ◌*◌, ◌%◌, ◌<◌, ◌++◌, length, IfOk, OnOk, Ok, Some, None, unwrap_or, slice_index, if◌then◌else◌};
 ghost use Rattle.std.specs.Option.{option_map};
 ghost use Rattle.std.specs.Result.{result_ok};
@@ -89,6 +89,7 @@ fn table_value(digit: u8) -> u8
     listed_value(digit)
 }
 
+/// What the table has for a byte.
 #[inline]
 fn listed_value(digit: u8) -> u8
     ensures { result ≡ slice_index DIGIT_VALUES digit }

@@ -8,7 +8,7 @@ use crate::input::read_input;
 use crate::outcomes::{LineCount, LineFault};
 use crate::pieces::reply_in_pieces;
 use crate::replies::{Replies, reply_to_lines};
-use exit_statuses::{DEVICE, DONE, NO_RESOURCES, REFUSED};
+use command_line::{DEVICE, DONE, NO_RESOURCES, REFUSED};
 use std::alloc::Global;
 use std::io::{Read, Write};
 use std::thread::Threads;

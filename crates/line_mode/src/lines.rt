@@ -1,4 +1,4 @@
-//! The lines of an input.
+//! An input, cut into its lines.
 ghost use Rattle.std.specs.Prelude.{◌≡◌};
 ghost use Rattle.std.specs.Str.Lines.{strip_carriage_return};
 

@@ -1,4 +1,4 @@
-//! The request that a line writes.
+//! The request that a line writes, or why the line is refused.
 ghost use Rattle.std.specs.Prelude.{◌≡◌, ◌∷◌, Ok, Some, None, IfOk, MatchResult, map, true};
 ghost use Rattle.std.specs.List.{list_all};
 ghost use Rattle.std.specs.Option.{option_map};

@@ -1,4 +1,4 @@
-//! Why a line is refused, and the refusals' numbers.
+//! The refusals of lines, and the number that a reply gives of each, as in `refused E3`.
 ghost use Rattle.std.specs.Prelude.{◌≡◌};
 ghost use Rattle.line_mode.specs.LineReply.{fault_number};
 

@@ -26,6 +26,7 @@ pub(crate) struct Replies {
 }
 
 impl Replies {
+    /// No replies.
     fn new(alloc: Global) -> Replies
         ensures { Holds result [] }
     {
@@ -83,6 +84,7 @@ pub(crate) fn reply_to_lines(alloc: Global, input: &[u8]) -> Result<Replies, All
     Ok(replies)
 }
 
+/// Whether a line has nothing but spaces, so that it gets no reply.
 fn is_blank(line: &[u8]) -> bool
     ensures { result ≡ list_all is_space line.now }
 {

@@ -1,4 +1,4 @@
-//! What C passes: numbers for codes and places, and bits for sets.
+//! What C passes: numbers for codes and places, bits for sets, and the test that all survivors have one length.
 ghost use Rattle.std.specs.Prelude.{◌↔◌, ◌≡◌, ◌<◌, ◌==◌, true, false, MatchOption};
 ghost use Rattle.std.specs.Bool.{IsTrue};
 ghost use Rattle.std.specs.Int.{bit_at};

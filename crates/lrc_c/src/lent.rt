@@ -1,4 +1,4 @@
-//! Bytes that C lends.
+//! Bytes that C lends, as a type alone: `arguments` tests what is passed.
 ghost use Rattle.std.specs.Prelude.{◌≡◌};
 
 use lrc_field::Source;

@@ -76,6 +76,7 @@ fn write_value(checks: &CheckRows, row: &[Gf; 16], out: &mut [u8]) -> bool
     write_if_zero(checks, &wants, out, &mut [], &mut [], &mut [])
 }
 
+/// The number that C gets for an answer.
 fn status_of(answer: Answer) -> u32
     ensures { result ≡ status_of answer }
 {

@@ -73,6 +73,7 @@ struct Coefficients {
     p1: Gf,
 }
 
+/// The coefficients of a data fragment's place in the four parities of the code.
 fn coefficients_of(code: Code, place: Place) -> Coefficients
     ensures { AreCoefficients (tables_of code) place result.px result.py result.p0 result.p1 }
 {

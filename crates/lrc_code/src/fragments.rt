@@ -23,6 +23,7 @@ pub struct Fragment {
 /// Bytes by the indexes of places, from x0 at 0 to y5 at 15.
 pub type Sources<'a> = [&'a [u8]; 16];
 
+/// Whether a fragment is at this place; what it says of requests `is_survivor` states.
 fn is_among_places(place: Place, fragments: &[Fragment]) -> bool
     ensures { result ≡ list_any (λ f. same_place place f.place) fragments.now }
 {
@@ -36,6 +37,7 @@ pub(crate) fn is_survivor(place: Place, fragments: &[Fragment]) -> bool
     is_among_places(place, fragments)
 }
 
+/// Whether one of the later fragments is at the place of the first.
 fn is_among_later(first: &Fragment, later: &[Fragment]) -> bool
     ensures { result ≡ is_among first.now.place (survivors_of later.now) }
 {
@@ -52,6 +54,7 @@ pub(crate) fn has_repeated(fragments: &[Fragment]) -> bool
     }
 }
 
+/// Whether each fragment is at a place of the code; what it says of requests `has_all` states.
 fn has_each(code: Code, fragments: &[Fragment]) -> bool
     ensures { result ≡ list_all (λ f. has_place (tables_of code) f.place) fragments.now }
 {
@@ -65,6 +68,7 @@ pub(crate) fn has_all(code: Code, fragments: &[Fragment]) -> bool
     has_each(code, fragments)
 }
 
+/// Whether a fragment has another length; what it says of requests `lacks_length` states.
 fn any_other_length(long: u32, fragments: &[Fragment]) -> bool
     ensures { result ≡ list_any (λ f. not (length f.bytes.items == long)) fragments.now }
 {

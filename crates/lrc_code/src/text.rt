@@ -18,6 +18,7 @@ pub fn parse_number(text: &[u8]) -> Option<u32>
     }
 }
 
+/// Whether all of these bytes are decimal digits.
 fn are_digits(text: &[u8]) -> bool
     ensures { result ≡ list_all is_digit text.now }
 {

@@ -70,6 +70,7 @@ pub(crate) fn added(a: u8x32, b: u8x32) -> u8x32
     a ^ b
 }
 
+/// The lower four bits of each lane.
 #[inline(always)]
 fn low_halves(bytes: u8x32) -> u8x32
     ensures { HasLanes result (λ k. slice_index bytes k % 16) }
@@ -77,6 +78,7 @@ fn low_halves(bytes: u8x32) -> u8x32
     bytes & u8x32::splat(15)
 }
 
+/// The upper four bits of each lane.
 #[inline(always)]
 fn high_halves(bytes: u8x32) -> u8x32
     ensures { HasLanes result (λ k. slice_index bytes k / 16) }

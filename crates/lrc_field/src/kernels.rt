@@ -33,6 +33,7 @@ pub fn scale_add_into(dst: &mut [u8], c: Gf, src: &[u8])
     }
 }
 
+/// Adds to each byte its product with the byte of the source, 32 at once, then 16, then one by one.
 fn add_products(dst: &mut [u8], c: Gf, src: &[u8])
     requires { length dst.old ≡ length src.now }
     ensures { dst.new ≡ sums dst.old (map (times c) src.now) }

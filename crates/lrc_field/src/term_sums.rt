@@ -67,6 +67,7 @@ fn six_sums_at(terms: &[Term], i: usize) -> Six
     sums
 }
 
+/// The product of a scalar and a byte; for 01 no table is asked.
 fn product(c: Gf, byte: u8) -> u8
     ensures { result ≡ times c byte }
 {
@@ -127,6 +128,7 @@ pub(crate) fn write_few(dst: &mut [u8], from: usize, terms: &[Term])
     }
 }
 
+/// Writes 00 over each byte.
 fn clear(bytes: &mut [u8])
     ensures len { length bytes.new ≡ length bytes.old }
     ensures zero { AreSet (λ k. 0) bytes.new (length bytes.old) }

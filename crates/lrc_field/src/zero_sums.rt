@@ -66,6 +66,7 @@ fn part_is_zero(part: &mut [u8], from: usize, terms: &[Term]) -> bool
     are_zeros(part)
 }
 
+/// Whether all bytes are 00.
 fn are_zeros(bytes: &[u8]) -> bool
     ensures { IsTrue result ↔ AreSet (λ k. 0) bytes.now (length bytes.now) }
 {

@@ -48,6 +48,7 @@ impl<A: Allocator> Tree<A> {
         self.add_leaves(PlaceSet::empty())
     }
 
+    /// These places and those that occur as leaves.
     fn add_leaves(&self, found: PlaceSet) -> PlaceSet
         ensures { (p : Place) → is_in result p ≡ (has_leaf (form_of self.now) p || is_in found p) }
     {

@@ -174,6 +174,7 @@ impl MemoryFolder {
         Ok(left)
     }
 
+    /// Adds a file that has no path yet, and gives its number.
     fn add_node(&mut self, bytes: Vec<u8>, is_on_disk: bool) -> Result<usize, AllocError>
         ensures { self.new.past.calls ≡ self.old.past.calls }
     {
@@ -182,6 +183,7 @@ impl MemoryFolder {
         Ok(node)
     }
 
+    /// The number of the file at a path, as it is seen now.
     pub(crate) fn node_at(&self, path: &str) -> Option<usize> {
         self.names
             .iter()
@@ -230,6 +232,7 @@ impl MemoryFolder {
         }
     }
 
+    /// How many bytes the file with a number has; 0 if there is none.
     pub(crate) fn length_of(&self, node: usize) -> usize {
         match self.nodes.get(node) {
             Some(node) => node.bytes.len(),
@@ -313,6 +316,7 @@ impl MemoryFolder {
         answer_of(fails)
     }
 
+    /// Notes a call in what was recorded, with whether it ended well.
     pub(crate) fn note(&mut self, call: &Call<'_>, is_ok: bool)
         ensures { self.new.past.calls ≡ recorded call.now is_ok ∷ self.old.past.calls }
     {

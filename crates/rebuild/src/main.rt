@@ -12,8 +12,7 @@
 //! What can't be written to standard error is lost; the status says how it ended all the same.
 #![tactic(auto)]
 
-use command_line::{Words, WordsFault, read_words};
-use exit_statuses::{DEVICE, DONE, NO_RESOURCES, USAGE};
+use command_line::{DEVICE, DONE, NO_RESOURCES, USAGE, Words, WordsFault, read_words};
 use farm_core::{Settings, SettingsFault};
 use farm_files::{Served, serve_folders};
 use farm_reading::{farm_status, fault_line};
@@ -26,6 +25,7 @@ use std::{env, io};
 
 const AT_TERMINAL: &str = "rebuild: reading lines until Ctrl-D; their form: rebuild --help";
 
+/// Does what the arguments ask for; the exit status says how it ended.
 fn main(rt: HostRuntime) -> ExitCode {
     let status = match asked(&rt) {
         Ok(Words::Lines) => answer_lines(&rt, &rt),
@@ -61,6 +61,7 @@ fn asked(rt: &HostRuntime) -> Result<Words, WordsFault> {
     read_words(rt.alloc(), arguments.as_slice())
 }
 
+/// The arguments after the program's name.
 fn arguments(rt: &HostRuntime) -> io::Result<Vec<String>> {
     Ok(env::args(rt)?.skip(1).collect(rt.alloc())?)
 }
@@ -119,6 +120,7 @@ fn refuse_arguments(rt: &HostRuntime, text: &str) -> u8 {
     USAGE
 }
 
+/// Says that memory was refused, and gives the exit status.
 fn report_out_of_memory(rt: &HostRuntime) -> u8 {
     let _ = eprintln!(rt; "E16");
     NO_RESOURCES

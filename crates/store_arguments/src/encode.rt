@@ -5,6 +5,7 @@ use crate::shared::definitions::{
     defined,
 };
 use crate::shared::naming::{LAYOUT, NAMES, Naming, links_of};
+use crate::shared::store::folder_of;
 use clap::{ArgMatches, Command as Definition};
 use lrc_code::Code;
 use std::alloc::{AllocError, Global};
@@ -87,6 +88,7 @@ impl<'a> EncodeOptions<'a> {
         alloc: Global,
         matches: &ArgMatches<'a>,
     ) -> Result<EncodeOptions<'a>, UsageFault> {
+        // The definition has this default, so that none is given without it.
         let code = code_of(matches.get_str("code")).unwrap_or(Code::Narrow);
         let mut files = Vec::new(alloc);
         for file in matches.get_strs("files").unwrap_or(&[]) {
@@ -101,7 +103,7 @@ impl<'a> EncodeOptions<'a> {
             return Err(UsageFault::NeedsName);
         }
         Ok(EncodeOptions {
-            folder: matches.get_str("store").unwrap_or("."),
+            folder: folder_of(matches),
             files,
             name,
             code,

@@ -2,6 +2,7 @@
 use crate::faults::UsageFault;
 use crate::shared::definitions::{Argument, FOLLOW, QUIET, STORE, TEXT, WORD, defined};
 use crate::shared::naming::{LAYOUT, NAMES, Naming, links_of};
+use crate::shared::store::folder_of;
 use clap::{ArgMatches, Command as Definition};
 use lrc_code::Code;
 use std::alloc::{AllocError, Global};
@@ -50,7 +51,7 @@ impl<'a> ReadOptions<'a> {
     /// What matches ask for. The description says the code, so that names may have the numbers of shards.
     pub(crate) fn of(matches: &ArgMatches<'a>) -> Result<ReadOptions<'a>, UsageFault> {
         Ok(ReadOptions {
-            folder: matches.get_str("store").unwrap_or("."),
+            folder: folder_of(matches),
             name: matches.get_str("name").unwrap_or(""),
             naming: Naming::of(matches, Some(Code::Wide))?,
             links: links_of(matches),

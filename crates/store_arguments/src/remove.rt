@@ -4,6 +4,7 @@ use crate::shared::definitions::{
     Argument, CODE, FOLLOW, Form, QUIET, STORE, TRUST, WORD, code_of, defined,
 };
 use crate::shared::naming::{LAYOUT, NAMES, Naming, links_of};
+use crate::shared::store::folder_of;
 use clap::{ArgMatches, Command as Definition};
 use lrc_code::Code;
 use std::alloc::{AllocError, Global};
@@ -55,7 +56,7 @@ impl<'a> RemoveOptions<'a> {
         }
         let code = code_of(matches.get_str("code"));
         Ok(RemoveOptions {
-            folder: matches.get_str("store").unwrap_or("."),
+            folder: folder_of(matches),
             names,
             code,
             naming: Naming::of(matches, code)?,

@@ -2,6 +2,7 @@
 use crate::faults::UsageFault;
 use crate::shared::definitions::{Argument, FOLLOW, Form, QUIET, STORE, WORD, defined};
 use crate::shared::naming::{LAYOUT, NAMES, Naming, links_of};
+use crate::shared::store::folder_of;
 use clap::{ArgMatches, Command as Definition};
 use lrc_code::Code;
 use std::alloc::{AllocError, Global};
@@ -48,7 +49,7 @@ impl<'a> VerifyOptions<'a> {
             names.push(*name)?;
         }
         Ok(VerifyOptions {
-            folder: matches.get_str("store").unwrap_or("."),
+            folder: folder_of(matches),
             names,
             naming: Naming::of(matches, Some(Code::Wide))?,
             links: links_of(matches),

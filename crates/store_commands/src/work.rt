@@ -1,4 +1,4 @@
-//! Threads that work on stripes side by side.
+//! Threads that work on stripes side by side, in the order of their losses: those that have lost most first.
 pub(crate) mod tasks;
 
 use crate::output::counters_file::CountersFile;
@@ -14,9 +14,11 @@ use store_folder::{FolderStore, SeparateStore, Site, SystemFolder};
 use store_opening::{OpenStore, Opening};
 use store_progress::{CountedReads, CountingFolder};
 use store_reading::{CopyWork, DescribedStripe, tend_descriptions};
-use store_repair::{Found, Outcome, Repair, Stripe, plan_stripe, repair_stripe, scrub_stripe};
+use store_repair::{
+    Found, Repair, Stripe, StripeOutcome, plan_stripe, repair_stripe, scrub_stripe,
+};
 use store_reports::{Contents, Done, without_left, without_repeated};
-use tasks::{bytes_of, bytes_read};
+use tasks::{bytes_read, survivor_bytes};
 
 /// The memory that is taken and given back before the work. The C library gives free memory back to the system after each stripe, unless
 /// it has seen a block come back that is as large: it then keeps twice as much. It looks at no block of more than 32 MiB.
@@ -39,7 +41,7 @@ pub(crate) struct Opened<'a> {
     pub(crate) counters: &'a CountersFile<'a>,
 }
 
-/// Where its stripes are, and where rows are printed as they are known, if that is wanted.
+/// The stripes that a command works on, where the store is, and where rows are printed as they are known, if that is wanted.
 #[derive(Clone, Copy)]
 pub(crate) struct Stripes<'a> {
     pub(crate) opened: Opened<'a>,
@@ -90,12 +92,12 @@ impl Work {
             Work::Repair(repair) | Work::Plan(repair) => {
                 bytes_read(alloc, repair, has_sums, stripe)
             }
-            Work::Scrub(code) => Ok(bytes_of(*code, stripe)),
+            Work::Scrub(code) => Ok(survivor_bytes(*code, stripe)),
         }
     }
 
-    /// How many units a stripe is of which this became.
-    fn units_of(&self, outcome: &Outcome) -> u64 {
+    /// How many units are done with a stripe that came to this outcome: the fragments that were rebuilt, or the stripe itself.
+    fn units_of(&self, outcome: &StripeOutcome) -> u64 {
         match self {
             Work::Repair(_) | Work::Plan(_) => outcome.rebuilt.len() as u64,
             Work::Scrub(_) => 1,
@@ -150,7 +152,8 @@ fn by_losses(alloc: Global, stripes: &[Stripe<'_>]) -> Result<Vec<usize>, AllocE
     Ok(order)
 }
 
-/// Takes one stripe after the other, each the next that no thread has taken.
+/// The work of one thread: it does it with one stripe after the other, each the next that no thread has taken. Only refused memory ends it
+/// early.
 fn take_stripes(
     system: &HostRuntime,
     stripes: &Stripes<'_>,
@@ -222,7 +225,7 @@ fn outcome_of(
     store: &mut SeparateStore<'_, CountingFolder<SystemFolder<'_>>>,
     work: Work,
     stripe: &Stripe<'_>,
-) -> Result<Outcome, AllocError> {
+) -> Result<StripeOutcome, AllocError> {
     match work {
         Work::Repair(repair) => repair_stripe(alloc, store, &repair, stripe),
         Work::Plan(repair) => {

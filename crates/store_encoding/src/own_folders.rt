@@ -6,6 +6,7 @@ use store_folder::refuse_linked_folders;
 use store_names::{folder_in, stripe_folders};
 
 /// Removes the folders that a stripe's fragments were in, as far as those of another stripe aren't there or below, and nothing is in them.
+/// The other is the name of any other stripe: folders that it would have too, as those of disks, aren't the stripe's own.
 pub(crate) fn remove_own_folders(
     rt: &HostRuntime,
     target: &Target<'_>,

@@ -7,7 +7,7 @@ use std::fs;
 use std::io::ErrorKind;
 use store_faults::{FileFault, device};
 use store_folder::{
-    Described, description_names, first_description_name, path_in, read_description,
+    Described, description_names, first_description_name, is_absent, path_in, read_description,
 };
 
 /// What the copies of a file's description say, each once, first what most say.
@@ -20,6 +20,7 @@ pub fn descriptions_of(
     if !file.has_name(alloc)? {
         return Err(no_stored(alloc, name, file.folder)?);
     }
+    // The code isn't known before one is read: the folders of a (12,2,2) stripe have those of a (6,2,2) one among them.
     let mut names = description_names(alloc, &file.pattern, Code::Wide, name)?;
     let first = first_description_name(alloc, name)?;
     if !names.iter().any(|other| other.as_str() == first.as_str()) {
@@ -33,15 +34,26 @@ pub fn descriptions_of(
             Ok(None) => {}
             Err(FileFault::OutOfMemory) => return Err(FileFault::OutOfMemory),
             Err(fault) => {
-                file.say(rt, format!(in rt.alloc(); "rebuild-store: {fault}"));
+                say_fault(rt, file, refused);
                 refused = Some(fault);
             }
         }
     }
     match refused {
+        // The caller says it.
         Some(fault) if said.is_empty() => Err(fault),
         None if said.is_empty() => Err(undescribed(rt, file)?),
-        _ => in_order(alloc, said.as_slice()),
+        last => {
+            say_fault(rt, file, last);
+            in_order(alloc, said.as_slice())
+        }
+    }
+}
+
+/// Says what is wrong with a copy, if anything is.
+fn say_fault(rt: &HostRuntime, file: &StoredFile<'_, '_>, fault: Option<FileFault>) {
+    if let Some(fault) = fault {
+        file.say(rt, format!(in rt.alloc(); "rebuild-store: {fault}"));
     }
 }
 
@@ -105,7 +117,7 @@ fn description_at(
         Ok(None) => Err(FileFault::Refused {
             what: format!(in alloc; "{path}: isn't a line with a length, a digest and a code")?,
         }),
-        Err(error) if error.kind() == ErrorKind::NotFound => Ok(None),
+        Err(error) if is_absent(error.kind()) => Ok(None),
         Err(error) => Err(device(alloc, path.as_str(), error)),
     }
 }

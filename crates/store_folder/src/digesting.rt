@@ -56,7 +56,7 @@ pub fn digests_of<F: Fragment>(
     Ok(found)
 }
 
-/// Adds the digests of at most eight fragments, which are read side by side.
+/// Adds the digests of at most eight fragments, which are read by turns and digested side by side.
 fn add_together<F: Fragment>(
     alloc: Global,
     fragments: &[Option<&F>],

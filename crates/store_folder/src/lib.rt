@@ -32,13 +32,13 @@ pub use digesting::{digest_of, digests_of};
 pub use disks::Unlisted;
 pub use expecting::expect_listed;
 pub use folder_store::FolderStore;
-pub use folders::{SystemFolder, SystemNew, SystemOpen, folder_of, is_absent};
+pub use folders::{Identity, SystemFolder, SystemNew, SystemOpen, folder_of, is_absent};
 pub use giving::give_name;
 pub use leaving::left_in;
 pub use links::{Links, followed, look_at, refuse_linked_folders};
 pub use listing::{Listing, list};
 pub use placing::{NewFile, place_again, place_new, sync_folder};
-pub use regular::{Identity, RegularFile, is_named, open_as, open_regular};
+pub use regular::{RegularFile, is_named, open_as, open_regular};
 pub use separate::{SeparateFile, SeparateStore};
 pub use site::Site;
 pub use store_names::{

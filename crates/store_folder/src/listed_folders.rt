@@ -1,8 +1,8 @@
 //! What is noted of folders, links and files that are met while a store is listed.
 use crate::disks::Unlisted;
 use crate::listing::Listing;
-use crate::regular::Identity;
 use crate::watching::{Foreign, Wanted, Watched, is_of_store, may_others_write};
+use folders::Identity;
 use std::alloc::{AllocError, Global};
 use std::fs::Metadata;
 use std::io::{self, ErrorKind};

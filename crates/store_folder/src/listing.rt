@@ -1,4 +1,4 @@
-//! What is in a store: which fragments of which stripes, and how many bytes each has.
+//! What is in a store: which fragments of which stripes, and how many bytes each has; no times are kept.
 use crate::disks::Unlisted;
 use crate::links::{Links, followed, look_at};
 use crate::stripe_names::StripeNames;
@@ -60,6 +60,7 @@ pub fn list(rt: &HostRuntime, folder: &str, wanted: &Wanted<'_>) -> io::Result<L
 }
 
 impl Listing {
+    /// What is known before anything is listed.
     fn new(rt: &HostRuntime, wanted: &Wanted<'_>) -> Result<Listing, AllocError> {
         let alloc = rt.alloc();
         let is_ambiguous = is_ambiguous(alloc, &wanted.pattern, wanted.code)?;

@@ -1,27 +1,9 @@
 //! Regular files. What is under a name is asked before it is opened, since opening a FIFO waits for a writer and opening a device may do
 //! something, and once more when it is open, since a name may be given to something else meanwhile.
 use crate::links::{Links, look_at, status_at};
-use folders::{Folder, OpenFile, Status};
+use folders::{Folder, Identity, OpenFile, Status};
 use std::fs::{self, File, Metadata, OpenOptions};
 use std::io::{self, ErrorKind};
-use std::os::unix::fs::MetadataExt;
-
-/// Which file of which file system something is.
-#[derive(Clone, Copy, Debug, PartialEq, Eq)]
-pub struct Identity {
-    device: u64,
-    node: u64,
-}
-
-impl Identity {
-    /// That of what is said of something.
-    pub fn of(metadata: &Metadata) -> Identity {
-        Identity {
-            device: metadata.dev(),
-            node: metadata.ino(),
-        }
-    }
-}
 
 /// A regular file that is open, and what was said of it then.
 #[derive(Drop)]
@@ -75,6 +57,7 @@ pub(crate) fn open_in<F: Folder>(
     Ok((file, status))
 }
 
+/// The error of a name that was given to another file while this one was opened.
 fn another_file() -> io::Error {
     io::Error::other("another file came under the name while it was opened")
 }

@@ -43,6 +43,7 @@ struct Votes {
 }
 
 impl Votes {
+    /// Adds a vote for a code.
     fn add(&mut self, code: Code) {
         match code {
             Code::Narrow => self.narrow = self.narrow.saturating_add(1),
@@ -50,6 +51,7 @@ impl Votes {
         }
     }
 
+    /// How many votes a code has.
     fn of(&self, code: Code) -> u64 {
         match code {
             Code::Narrow => self.narrow,

@@ -1,4 +1,4 @@
-//! The file of a store's sums, as it is read.
+//! The file of a store's sums: its name, SHA256SUMS, and how it is read.
 use crate::links::Links;
 use crate::regular::open_regular;
 use std::io::{BufRead, BufReader};

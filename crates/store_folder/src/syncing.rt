@@ -20,6 +20,7 @@ pub(crate) struct Touched {
 }
 
 impl Touched {
+    /// No folders.
     pub(crate) fn new(alloc: Global) -> Touched {
         Touched {
             folders: Vec::new(alloc),
@@ -50,6 +51,7 @@ impl Touched {
     }
 }
 
+/// Whether a folder is among some.
 fn has(folders: &[String], folder: &str) -> bool
     ensures { result ≡ list_any (λ other. bytes_eq (string_bytes other) folder.now) folders.now }
 {

@@ -10,10 +10,7 @@ use std::alloc::{AllocError, Global};
 use std::fs::{self, TryLockError};
 use std::io::{self, ErrorKind};
 use std::random::RandomSource;
-use store_names::{is_free, path_in};
-
-/// How many digits at random end the name of an unfinished file.
-const RANDOM_DIGITS: usize = 16;
+use store_names::{RANDOM_DIGITS, UNFINISHED, is_free, path_in};
 
 /// How many names are tried for a new file.
 const MOST_NAMES: usize = 100;
@@ -102,7 +99,8 @@ pub(crate) fn new_path(rt: &HostRuntime, folder: &str, tag: &str) -> io::Result<
     let mut bytes = [0u8; RANDOM_DIGITS / 2];
     rt.fill_bytes(&mut bytes)?;
     let digits = hex::encode(alloc, bytes.as_slice())?;
-    let name = format!(in alloc; ".rebuild-store-{tag}{digits}")?;
+    let name = format!(in alloc; "{UNFINISHED}{tag}{digits}")?;
+    // Only a tag with a slash comes to this: else the name is one of an unfinished file.
     if is_free(name.as_str()) {
         return Err(io::Error::from(ErrorKind::InvalidInput));
     }
@@ -141,6 +139,7 @@ pub fn remove_leftover(rt: &HostRuntime, path: &str, is_known_dead: bool) -> Lef
     }
 }
 
+/// What became of a leftover, by how its removal ended.
 fn removed(done: io::Result<()>) -> Leftover {
     match done {
         Ok(()) => Leftover::Removed,

@@ -99,6 +99,7 @@ fn is_as_wanted(digest: Option<Sha256>, sum: Option<Digest>) -> bool
     }
 }
 
+/// Whether a digest of all that was written is the one that is wanted.
 fn has_digest(digest: Sha256, wanted: &Digest) -> bool
     ensures { result ≡ true → (bytes : List ℕ) → Holds256 digest bytes → sha256 bytes ≡ wanted.now }
 {

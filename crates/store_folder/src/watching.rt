@@ -1,8 +1,8 @@
 //! How a store is listed, and what is looked out for meanwhile: a path that may be one of its names, folders that others may write into.
 use crate::links::Links;
-use crate::regular::{Identity, open_regular};
+use crate::regular::open_regular;
 use crate::sums::SUMS_NAME;
-use folders::folder_of;
+use folders::{Identity, folder_of};
 use lrc_code::Code;
 use std::fs::{self, Metadata};
 use std::io::Read;

@@ -24,6 +24,7 @@ pub fn stripe_folders(
     Ok(folders)
 }
 
+/// Whether a folder is among some.
 fn has(folders: &[String], folder: &str) -> bool {
     folders.iter().any(|other| other.as_str() == folder)
 }

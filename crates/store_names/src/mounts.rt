@@ -23,24 +23,66 @@ const OF_SERVERS: &[&str] = &["nfs", "nfs4"];
 /// The options by which such a client takes locks at its own host alone.
 const OF_CLIENTS: &[&str] = &["local_lock=all", "local_lock=flock", "nolock"];
 
-/// Whom locks keep out at an absolute path without links, by the text of Linux's `/proc/self/mountinfo`.
-pub fn locking_at(alloc: Global, table: &str, path: &str) -> Result<Locking, AllocError> {
-    let path = as_in_table(alloc, path)?;
-    let mut longest = 0usize;
-    let mut found = Locking::Unknown;
-    for line in table.lines() {
-        if let Some((point, locking)) = mount_of(line) {
-            // The last of several at one place is the one that is seen.
-            if longest <= point.len() && is_at_or_below(path.as_str(), point) {
-                longest = point.len();
-                found = locking;
-            }
-        }
-    }
-    Ok(found)
+/// A line of the table: the number of a mount, that of the mount which it is on, where it is, and what its locks are.
+#[derive(Clone, Copy)]
+struct Mount<'t> {
+    number: &'t str,
+    on: &'t str,
+    point: &'t str,
+    locking: Locking,
 }
 
-/// A path as the table has it: with octal numbers for what would end a field.
+/// Whom locks keep out at an absolute path without links, by the text of Linux's `/proc/self/mountinfo`. A path is gone along as the kernel
+/// does, from mount to mount, so that what a later mount hides isn't found.
+pub fn locking_at(alloc: Global, table: &str, path: &str) -> Result<Locking, AllocError> {
+    let path = as_in_table(alloc, path)?;
+    let mut reached = None;
+    for _mount in table.lines() {
+        match next_mount(table, path.as_str(), reached) {
+            Some(mount) => reached = Some(mount),
+            None => break,
+        }
+    }
+    Ok(match reached {
+        Some(mount) => mount.locking,
+        None => Locking::Unknown,
+    })
+}
+
+/// The mount that is met next on the way to a path after one, or that which is met first: of those on it the one with the shortest path,
+/// and of several at one place the last.
+fn next_mount<'t>(table: &'t str, path: &str, from: Option<Mount<'t>>) -> Option<Mount<'t>> {
+    let mut next: Option<Mount<'t>> = None;
+    for line in table.lines() {
+        let Some(mount) = mount_of(line) else {
+            continue;
+        };
+        if !is_at_or_below(path, mount.point) || !is_on(table, mount, from) {
+            continue;
+        }
+        match next {
+            Some(other) if other.point.len() < mount.point.len() => {}
+            _ => next = Some(mount),
+        }
+    }
+    next
+}
+
+/// Whether a mount is on this one, or on none that the table has.
+fn is_on(table: &str, mount: Mount<'_>, below: Option<Mount<'_>>) -> bool {
+    let is_on_itself = mount.on == mount.number;
+    match below {
+        Some(below) => !is_on_itself && mount.on == below.number,
+        None => is_on_itself || !has_number(table, mount.on),
+    }
+}
+
+/// Whether the table has a mount with this number.
+fn has_number(table: &str, number: &str) -> bool {
+    table.lines().any(|line| mount_of(line).is_some_and(|mount| mount.number == number))
+}
+
+/// A path as the table has it: with octal numbers for what would end a field, and for what they begin with.
 fn as_in_table(alloc: Global, path: &str) -> Result<String, AllocError> {
     let mut text = String::new(alloc);
     for letter in path.chars() {
@@ -55,16 +97,25 @@ fn as_in_table(alloc: Global, path: &str) -> Result<String, AllocError> {
     Ok(text)
 }
 
-/// Where a line of the table says that something is mounted, and what its locks are.
-fn mount_of(line: &str) -> Option<(&str, Locking)> {
+/// What a line of the table says, if it has that form.
+fn mount_of(line: &str) -> Option<Mount<'_>> {
     let (place, system) = line.split_once(" - ")?;
-    let point = place.split(' ').nth(4)?;
+    let mut places = place.split(' ');
+    let number = places.next()?;
+    let on = places.next()?;
+    let point = places.nth(2)?;
     let mut fields = system.split(' ');
     let kind = fields.next()?;
     let options = fields.nth(1).unwrap_or("");
-    Some((point, locking_of(kind, options)))
+    Some(Mount {
+        number,
+        on,
+        point,
+        locking: locking_of(kind, options),
+    })
 }
 
+/// What the locks are on a file system of this kind that is mounted with these options.
 fn locking_of(kind: &str, options: &str) -> Locking {
     if OF_ONE_HOST.contains(&kind) {
         return Locking::OneHost;
@@ -78,6 +129,7 @@ fn locking_of(kind: &str, options: &str) -> Locking {
     Locking::Unknown
 }
 
+/// Whether a path is a mount point or below it.
 fn is_at_or_below(path: &str, point: &str) -> bool {
     match path.strip_prefix(point) {
         Some(rest) => point == "/" || rest.is_empty() || rest.starts_with('/'),

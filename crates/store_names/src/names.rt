@@ -1,4 +1,4 @@
-//! The names of a store's fragments, as a pattern makes and reads them.
+//! The names of a store's fragments, as a pattern makes and reads them, and the second name, `.damaged`, of one that was replaced.
 ghost use Rattle.std.specs.Prelude.{◌≡◌, ◌≢◌, ◌++◌, ℕ, List, Option, IfOk, IfSome, MatchOption, not, ◌==◌, option_map, string_bytes};
 ghost use Rattle.std.specs.List.{list_all};
 ghost use Rattle.lrc_code.specs.declared.places.Place.{Place};
@@ -27,6 +27,7 @@ fn can_be_stripe(text: &[u8]) -> bool
     0 < text.len() && is_alone
 }
 
+/// Whether a text has no slash.
 fn has_no_slash(text: &[u8]) -> bool
     ensures { result ≡ list_all (λ byte. not (byte == 47)) text.now }
 {

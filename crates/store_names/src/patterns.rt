@@ -56,6 +56,7 @@ fn keeps_apart(naming: Naming, is_stripe_first: bool, between: &[u8]) -> bool
     }
 }
 
+/// Whether a text has a brace, which only {stripe}, {place} and {shard} may have.
 fn has_brace(text: &str) -> bool {
     text.contains('{') || text.contains('}')
 }

@@ -7,7 +7,7 @@ ghost use Rattle.store_names.specs.Temporary.{ends_in_digits, is_digit, is_free,
 use std::alloc::{AllocError, Global};
 
 /// How the name of a file begins that isn't whole yet.
-const UNFINISHED: &str = ".rebuild-store-";
+pub const UNFINISHED: &str = ".rebuild-store-";
 
 /// What follows in the name of the lock of a part, before its number and after it.
 const PART: &str = "part-";
@@ -15,23 +15,26 @@ const PART: &str = "part-";
 const OF: &str = "-of-";
 
 /// How many digits at random end the name of an unfinished file.
-const RANDOM_DIGITS: usize = 16;
+pub const RANDOM_DIGITS: usize = 16;
 
 /// How many letters of a host's name are kept: as many as Linux lets it have.
 const MOST_OF_HOST: usize = 64;
 
+/// Whether a byte is a hexadecimal digit in small letters.
 fn is_digit(byte: u8) -> bool
     ensures { result ≡ is_digit byte }
 {
     (b'0' <= byte && byte <= b'9') || (b'a' <= byte && byte <= b'f')
 }
 
+/// Whether all of these bytes are such digits.
 fn are_digits(text: &[u8]) -> bool
     ensures { result ≡ list_all is_digit text.now }
 {
     text.iter().all(|byte| is_digit(*byte))
 }
 
+/// Whether a name ends in as many digits as an unfinished file has.
 fn ends_in_digits(name: &[u8]) -> bool
     ensures { result ≡ ends_in_digits name.now }
 {
@@ -41,6 +44,7 @@ fn ends_in_digits(name: &[u8]) -> bool
     are_digits(&name[name.len() - RANDOM_DIGITS..])
 }
 
+/// Whether a name begins as those of unfinished files do.
 fn begins_as_unfinished(name: &str) -> bool
     ensures { result ≡ starts_with eqb name.now (codes ".rebuild-store-") }
 {
@@ -125,6 +129,7 @@ pub fn run_named(alloc: Global, process: &str, host: &str) -> Result<String, All
     Ok(run)
 }
 
+/// Whether a letter of a host's name is kept as it is.
 fn is_of_host(letter: char) -> bool {
     letter.is_ascii_alphanumeric() || letter == '.' || letter == '-' || letter == '_'
 }
@@ -163,6 +168,7 @@ pub fn tag_of_part(alloc: Global, index: u64, of: u64) -> Result<String, AllocEr
     format!(in alloc; "{index}-{of}-")
 }
 
+/// Whether a name is that of the lock of a part.
 fn is_lock(name: &str) -> bool {
     name.strip_prefix(UNFINISHED)
         .and_then(|rest| rest.strip_prefix(PART))
@@ -182,6 +188,7 @@ fn is_number(text: &str) -> bool {
     !text.is_empty() && !text.starts_with('0') && text.chars().all(|letter| letter.is_ascii_digit())
 }
 
+/// Whether a text is the digits at random of an unfinished file.
 fn is_random(text: &str) -> bool {
     text.len() == RANDOM_DIGITS
         && text.chars().all(|letter| letter.is_ascii_digit() || ('a' <= letter && letter <= 'f'))

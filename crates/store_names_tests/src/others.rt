@@ -103,7 +103,8 @@ const RUNS: &[(&str, Option<&str>)] = &[
     ("4711@alpha-0123456789abcdef", None),
 ];
 
-/// A table of mounts as Linux has it: of two at one place the last is seen, and a field has no space.
+/// A table of mounts as Linux has it: of two at one place the last is seen, a mount hides what was mounted below it before, and a field has
+/// no space.
 const MOUNTS: &str = "22 27 0:21 / /proc rw,relatime - proc proc rw
 27 1 254:0 / / rw,relatime shared:1 - ext4 /dev/vda rw,discard
 28 27 0:30 / /srv rw,relatime shared:2 master:1 - nfs4 one:/srv rw,vers=4.2,local_lock=none,addr=10.0.0.1
@@ -112,6 +113,9 @@ const MOUNTS: &str = "22 27 0:21 / /proc rw,relatime - proc proc rw
 31 28 0:40 / /srv/with\\040space rw,relatime - tmpfs tmpfs rw
 32 28 0:41 / /srv/c rw,relatime - fuse.sshfs two:/c rw
 33 32 0:42 / /srv/c rw,relatime - xfs /dev/vdb rw
+34 27 0:43 / /old/deep rw,relatime - ext4 /dev/vdc rw
+35 27 0:44 / /old rw,relatime - nfs4 one:/old rw,vers=4.2
+36 35 0:45 / /old/new rw,relatime - btrfs /dev/vdd rw
 a line of another form
 ";
 
@@ -131,6 +135,9 @@ const LOCKINGS: &[(&str, Locking)] = &[
     ("/srv/with space/store", Locking::OneHost),
     ("/srv/with", Locking::SharedFiles),
     ("/srv/c/store", Locking::OneHost),
+    ("/old", Locking::SharedFiles),
+    ("/old/deep/store", Locking::SharedFiles),
+    ("/old/new/store", Locking::OneHost),
     ("store", Locking::Unknown),
 ];
 

@@ -44,6 +44,7 @@ fn expect_stripes(rt: &HostRuntime, listing: &mut Listing, path: &str) -> Result
     }
 }
 
+/// Reads the names of stripes that have to be there, one on each line.
 fn read_names(rt: &HostRuntime, listing: &mut Listing, path: &str) -> io::Result<()> {
     let alloc = rt.alloc();
     for line in BufReader::new(alloc, fs::open(rt, path)?)?.lines(alloc) {

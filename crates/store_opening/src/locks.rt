@@ -30,7 +30,8 @@ impl Locks {
     }
 
     /// Those that keep other runs that write out of a folder, or out of a part of it. A lock of a folder keeps out runs of this host alone:
-    /// if others may have the folder too, a run that works on all of it has the lock of part 1 of 1 besides.
+    /// if others may have the folder too, a run that works on all of it has the lock of part 1 of 1 besides. Of runs of other hosts a lock
+    /// keeps out those with the same part alone: for the others `refuse_other_parts` refuses the store, once it is listed.
     pub fn take(rt: &HostRuntime, folder: &str, part: Option<Part>) -> Result<Locks, StoreFault> {
         let sharing = Sharing::read(rt)?;
         let locking = sharing.locking(rt, folder)?;

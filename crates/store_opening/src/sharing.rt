@@ -3,7 +3,7 @@ use std::alloc::{AllocError, Global};
 use std::fs;
 use std::io::ErrorKind;
 use store_faults::{StoreFault, device_fault};
-use store_names::{Locking, is_run, last_of, locking_at, run_named, run_of};
+use store_names::{Locking, is_run, is_unfinished, last_of, locking_at, run_named, run_of};
 
 /// This process, as a link that is its number, and the name of this host.
 const PROCESS: &str = "/proc/self";
@@ -86,11 +86,13 @@ impl Sharing {
         }
         match run_of(last_of(path)) {
             Some(run) => self.other_of(rt, run),
+            // What it has is a fragment's bytes.
+            None if is_unfinished(last_of(path)) => self.other_of(rt, ""),
             None => self.other_in(rt, path),
         }
     }
 
-    /// The run that the file at a path names as its own.
+    /// The run that the file of a lock names as its own.
     fn other_in(&self, rt: &HostRuntime, path: &str) -> Result<Option<OtherRun>, AllocError> {
         let is_short = fs::symlink_metadata(rt, path).is_ok_and(|there| there.is_file()
             && there.len() <= MOST_OF_LOCK);
@@ -144,6 +146,7 @@ fn text_of(rt: &HostRuntime, path: &str) -> Result<String, AllocError> {
     }
 }
 
+/// No text after a failed read, unless memory was refused.
 fn empty_after(alloc: Global, kind: ErrorKind) -> Result<String, AllocError> {
     if kind == ErrorKind::OutOfMemory {
         return Err(AllocError);

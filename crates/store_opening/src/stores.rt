@@ -39,7 +39,7 @@ pub struct OpenStore {
 }
 
 /// Opens a store; where it is to be written into, no other run that writes works in it meanwhile. Its code is the one that is given, or
-/// else what the places of the files say: 12-2-2 where one of them is a place of that code alone.
+/// else `StripeNames::code`, which the descriptions and the places of the files say.
 pub fn open_store(rt: &HostRuntime, opening: &Opening<'_>) -> Result<OpenStore, StoreFault> {
     let locks = match opening.access {
         Access::Writes { .. } => {
@@ -71,6 +71,7 @@ struct Unlocked {
 }
 
 impl Unlocked {
+    /// The open store, with these locks.
     fn with(self, locks: Locks) -> OpenStore {
         let Unlocked {
             folder,

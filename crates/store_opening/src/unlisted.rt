@@ -5,7 +5,7 @@ use std::io::ErrorKind;
 use store_faults::{StoreFault, device_fault, say, words_of};
 use store_folder::{Listing, Pattern, Unlisted, Wanted, is_folder_of, list};
 
-/// Lists a folder, and says which links weren't followed.
+/// Lists a folder, and says how many links weren't followed, and the first of them.
 pub(crate) fn listed(
     rt: &HostRuntime,
     folder: &str,

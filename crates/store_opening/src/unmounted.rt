@@ -100,6 +100,7 @@ pub(crate) fn leave_alone(
 ) -> Result<(), AllocError> {
     let mut places = PlaceSet::empty();
     for place in code.places() {
+        // Folders of disks are the same for each stripe.
         if let Some(name) = pattern.name_of(alloc, code, "a", *place)? {
             let inside = folder_in(name.as_str());
             if folders.iter().any(|folder| folder.as_str() == inside) {

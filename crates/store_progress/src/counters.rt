@@ -1,4 +1,4 @@
-//! How far a command is, as counters that Prometheus reads from a file.
+//! How far a command is, as the text of counters that Prometheus reads.
 use crate::progress::Progress;
 use std::alloc::{AllocError, Global};
 use std::time::{SystemTime, UNIX_EPOCH};

@@ -2,8 +2,10 @@
 //! files may be that are written.
 //!
 //! ```rust
-//! let progress = Progress::of_files(&rt, Operation::Encoding, 3)?;
-//! let mut files = CountingFolder::new(SystemFolder::new(&rt), &rt, &progress);
+//! let task = Task { operation: Operation::Encode, units: 3, bytes, passes: 2 };
+//! let progress = Arc::new(rt.alloc(), Progress::new(&rt, task, false))?;
+//! let reads = Arc::new(rt.alloc(), CountedReads::new(&rt, &progress)?)?;
+//! let mut files = CountingFolder::new(SystemFolder::new(&rt), reads);
 //! ```
 #![tactic(auto)]
 

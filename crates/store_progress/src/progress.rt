@@ -5,7 +5,7 @@ use std::alloc::{AllocError, Global};
 use std::io::{self, IsTerminal};
 use std::sync::atomic::{AtomicU64, Ordering};
 use std::time::Instant;
-use store_repair::Outcome;
+use store_repair::StripeOutcome;
 
 /// The least time between two lines, in milliseconds.
 const BETWEEN: u64 = 200;
@@ -31,6 +31,7 @@ pub enum Operation {
 }
 
 impl Operation {
+    /// The name of its command.
     fn name(self) -> &'static str {
         match self {
             Operation::Repair => "repair",
@@ -176,7 +177,7 @@ impl Progress {
     }
 
     /// Notes what became of a stripe.
-    pub fn note(&self, outcome: &Outcome) {
+    pub fn note(&self, outcome: &StripeOutcome) {
         for finding in &outcome.findings {
             if finding.reason.is_damage() {
                 self.damaged.fetch_add(1, Ordering::SeqCst);

@@ -29,14 +29,14 @@ pub enum CopyWork {
 #[derive(Clone, Copy)]
 pub struct DescribedStripe<'a> {
     pub name: &'a str,
-    /// How many bytes each fragment has.
+    /// How many bytes each fragment has. To name copies (`CopyWork::Name`) it isn't needed.
     pub length: usize,
     /// The folders of the store into which nothing is to be written, since no disk is mounted there.
     pub unmounted: &'a [String],
 }
 
-/// Looks at the copies of a stripe's description, and makes what is lost of them if that is asked for. Where no copy is believed, the
-/// description is the one that the digests determine with the file that the fragments give, if there is one.
+/// Looks at the copies of a stripe's description, and makes what is lost of them if that is asked for. If no copy is believed, and they
+/// aren't only named, the description is the one that the digests determine with the file that the fragments give, if there is one.
 pub fn tend_descriptions(
     rt: &HostRuntime,
     site: &Site<'_>,
@@ -193,6 +193,7 @@ fn make(
     Ok(placed)
 }
 
+/// Writes the text of a copy, and gives the file the owner and the rights of another copy, if there is one.
 fn fill(file: &mut NewFile, text: &[u8], like: Option<&Metadata>) -> io::Result<()> {
     file.append(text)?;
     if let Some(like) = like {

@@ -7,7 +7,7 @@ ghost use Rattle.store_repair.specs.Windows.{AreAppended, window as window_of};
 use crate::mending::MendFault;
 use crate::store::{Fragment, NewFragment};
 use crate::windows::{
-    Buffers, FileFault, WINDOW, Window, append_sums, read_window, rooms_for, slices_of,
+    Buffers, FileError, WINDOW, Window, append_sums, read_window, rooms_for, slices_of,
 };
 use lrc_field::Gf;
 use std::alloc::{AllocError, Global};
@@ -57,12 +57,12 @@ fn append_window<F: Fragment, N: NewFragment>(
 {
     let size = window.size;
     let rooms = buffers.rooms.as_mut_slice();
-    if let Err(FileFault { index, error }) = read_window(fragments, window.from, size, rooms) {
+    if let Err(FileError { index, error }) = read_window(fragments, window.from, size, rooms) {
         return Err(MendFault::Unread { index, error });
     }
     let slices = slices_of(*buffers.rooms.allocator(), buffers.rooms.as_slice())?;
     let sums = buffers.sums.slice_mut(..size);
-    if let Err(FileFault { index, error }) = append_sums(rows, slices.as_slice(), sums, files) {
+    if let Err(FileError { index, error }) = append_sums(rows, slices.as_slice(), sums, files) {
         return Err(MendFault::Unwritten { index, error });
     }
     Ok(())

@@ -161,8 +161,8 @@ fn damage_beside(code: Code, survivors: PlaceSet, place: Place) -> Damage
     })
 }
 
-/// The other survivors at which a stripe may differ from the survivors that differs from them in at most two places, where one differs at
-/// this place alone.
+/// If a stripe differs from the survivors at this place alone: the others that may be damaged instead, since another stripe may differ from
+/// the survivors there, and in at most two places.
 fn other_suspects(code: Code, survivors: PlaceSet, place: Place) -> PlaceSet
     ensures { (q : Place) → without code (is_in survivors) place q ≡ true → is_in result q ≡ false
         → IsCleared code (without code (is_in survivors) place) place q }
@@ -180,7 +180,7 @@ fn other_suspects(code: Code, survivors: PlaceSet, place: Place) -> PlaceSet
     suspects
 }
 
-/// Whether a stripe may differ at one of the others from survivors, in at most two places, where one differs at `place` alone.
+/// If a stripe differs from survivors at `place` alone: whether another stripe may differ from them at `other`, and in at most two places.
 fn is_suspect(code: Code, others: PlaceSet, place: Place, other: Place) -> bool
     ensures { result ≡ false → IsCleared code (is_in others) place other }
 {

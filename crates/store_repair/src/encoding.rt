@@ -7,7 +7,7 @@ ghost use Rattle.store_repair.specs.Mended.{AreEmpty, IsOfSystem};
 
 use crate::combining::append_combined;
 use crate::mending::MendFault;
-use crate::parts::{Part, fragment_length, parts_of};
+use crate::parts::{FilePart, fragment_length, parts_of};
 use crate::store::{Fragment, NewFragment};
 use lrc_code::Code;
 use lrc_field::Gf;
@@ -29,7 +29,7 @@ pub fn encode<S: Fragment, N: NewFragment>(
         → OnOk result (AreFragmentsOf N.shown code file (tables_of code).places files.new) }
     ensures refused { IfErr result IsOfSystem }
 {
-    let parts: Vec<Option<Part<'_, S>>> = parts_of(alloc, code, source, file_bytes)?;
+    let parts: Vec<Option<FilePart<'_, S>>> = parts_of(alloc, code, source, file_bytes)?;
     let rows = rows_of(alloc, code)?;
     let many = fragment_length(code, file_bytes);
     append_combined(alloc, parts.as_slice(), many, rows.as_slice(), files)

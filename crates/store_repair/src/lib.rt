@@ -42,7 +42,7 @@ pub use losses::{LostPlaces, have_checks, lost_places};
 pub use memory::{MemoryFragment, MemoryStore};
 pub use mending::{MendFault, Survivors, mend};
 pub use opening::{Opened, open_survivors};
-pub use outcomes::{Finding, Outcome, Reason};
+pub use outcomes::{Finding, Reason, StripeOutcome};
 pub use parts::fragment_length;
 pub use planning::plan_stripe;
 pub use repairing::repair_stripe;

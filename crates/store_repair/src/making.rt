@@ -1,4 +1,5 @@
-//! Making files for the lost fragments of a stripe, from all survivors that belong together.
+//! Making files for the lost fragments of a stripe, from all survivors that belong together: one that can't be read, or is damaged, is left
+//! out, and the others are tried again.
 ghost use Rattle.std.specs.Prelude.{◌≡◌, ◌≢◌, ◌&&◌, ℕ, List, [], not, All, Contains, IfNone, IfOk, IfSome, OnOk, length, true};
 ghost use Rattle.lrc_code.specs.declared.places.Place.{Place};
 ghost use Rattle.lrc_code.specs.Code.{has_place};
@@ -41,7 +42,7 @@ pub(crate) enum Attempt<N> {
     GivenUp,
 }
 
-/// Makes files for the lost fragments, from all survivors that belong together.
+/// Makes files for the lost fragments, from all survivors that belong together; none, and a finding that says why, as `make_lost` does.
 pub(crate) fn make<S: Store>(
     alloc: Global,
     store: &mut S,

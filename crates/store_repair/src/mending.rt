@@ -11,7 +11,7 @@ ghost use Rattle.store_repair.specs.Windows.{IsMendedWindow, window as window_of
 
 use crate::store::{Fragment, NewFragment};
 use crate::windows::{
-    Buffers, FileFault, WINDOW, Window, append_sums, are_zero, read_window, rooms_for, slices_of,
+    Buffers, FileError, WINDOW, Window, append_sums, are_zero, read_window, rooms_for, slices_of,
 };
 use lrc_code::{Code, Place, PlaceSet};
 use lrc_field::Gf;
@@ -151,7 +151,7 @@ fn mend_window<F: Fragment, N: NewFragment>(
 {
     let size = window.size;
     let rooms = buffers.rooms.as_mut_slice();
-    if let Err(FileFault { index, error }) = read_window(
+    if let Err(FileError { index, error }) = read_window(
         survivors.fragments,
         window.from,
         size,
@@ -164,7 +164,7 @@ fn mend_window<F: Fragment, N: NewFragment>(
         return Ok(false);
     }
     let sums = buffers.sums.slice_mut(..size);
-    if let Err(FileFault { index, error }) = append_sums(
+    if let Err(FileError { index, error }) = append_sums(
         plan.rows.as_slice(),
         slices.as_slice(),
         sums,

@@ -1,4 +1,4 @@
-//! The surviving fragments of a stripe, open for reading.
+//! The surviving fragments of a stripe, open for reading: one that can't be opened, or that the store refuses, is noted and left out.
 ghost use Rattle.std.specs.Prelude.{◌≡◌, ◌&&◌, IfOk, OnOk, None, length, set, vec_len};
 ghost use Rattle.lrc_code.specs.Code.{has_place};
 ghost use Rattle.lrc_code.specs.Codes.{tables_of};

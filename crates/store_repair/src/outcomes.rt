@@ -119,28 +119,28 @@ pub struct Finding {
 
 /// What became of a stripe.
 #[derive(Debug, Drop)]
-pub struct Outcome {
+pub struct StripeOutcome {
     /// How many bytes each fragment of the stripe has.
     pub length: usize,
     /// The survivors that were used.
     pub survivors: PlaceSet,
-    /// Whether these are more than the stripe is determined by, so that damage among them shows, and have bytes, and none was left out by a
-    /// guess.
+    /// Whether these are more than the stripe is determined by, so that damage among them shows, and none was left out by a guess; of a
+    /// repair also whether they have bytes.
     pub is_checked: bool,
     /// The places whose fragments were rebuilt and have their names; of a plan, those that would be.
     pub rebuilt: Vec<Place>,
     pub findings: Vec<Finding>,
 }
 
-impl Outcome {
+impl StripeOutcome {
     /// A stripe of which nothing was rebuilt.
-    pub fn of(alloc: Global, findings: Vec<Finding>) -> Outcome
+    pub fn of(alloc: Global, findings: Vec<Finding>) -> StripeOutcome
         ensures rebuilt { result.rebuilt.items ≡ [] }
         ensures findings { result.findings.items ≡ findings.items }
         ensures checked { result.is_checked ≡ false }
         ensures survivors { (p : Place) → is_in result.survivors p ≡ false }
     {
-        Outcome {
+        StripeOutcome {
             length: 0,
             survivors: PlaceSet::empty(),
             is_checked: false,

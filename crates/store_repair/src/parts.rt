@@ -11,14 +11,14 @@ use std::io::{self, ErrorKind};
 
 /// Some bytes of a file from a position on, with 00 after its end.
 #[derive(Drop)]
-pub(crate) struct Part<'s, S> {
+pub(crate) struct FilePart<'s, S> {
     source: &'s S,
     file_bytes: usize,
     from: usize,
     many: usize,
 }
 
-impl<'s, S: Fragment> Fragment for Part<'s, S> {
+impl<'s, S: Fragment> Fragment for FilePart<'s, S> {
     ghost shown = { λ p. option_map (λ file. part (take p.file_bytes file) p.from p.many) (S.shown p.source.now) };
 
     fn read_at(&self, from: usize, bytes: &mut [u8]) -> io::Result<()> {
@@ -64,16 +64,16 @@ pub(crate) fn parts_of<'s, S: Fragment>(
     code: Code,
     source: &'s S,
     file_bytes: usize,
-) -> Result<Vec<Option<Part<'s, S>>>, AllocError>
+) -> Result<Vec<Option<FilePart<'s, S>>>, AllocError>
     ensures many { IfOk result (λ v. length v.items ≡ data_count code) }
     ensures parts { (file : List ℕ) → S.shown source.now ≡ Some file → length file ≡ file_bytes
-        → IfOk result (λ v. map (shown_of ⟦<Part<'s, S> as Fragment>⟧.shown) v.items
+        → IfOk result (λ v. map (shown_of ⟦<FilePart<'s, S> as Fragment>⟧.shown) v.items
         ≡ map Some (parts code (fragment_length code file_bytes) file)) }
 {
     let many = fragment_length(code, file_bytes);
     let mut parts = Vec::with_capacity(alloc, code.data_count())?;
     for index in 0..code.data_count() {
-        parts.push(Some(Part {
+        parts.push(Some(FilePart {
             source,
             file_bytes,
             from: index.saturating_mul(many),

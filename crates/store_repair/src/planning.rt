@@ -14,7 +14,7 @@ use crate::lengths::length_or_note;
 use crate::losses::{are_checked, lost_places};
 use crate::making::{note_all, to_be_rebuilt};
 use crate::opening::{Opened, open_survivors};
-use crate::outcomes::{Finding, Outcome};
+use crate::outcomes::{Finding, StripeOutcome};
 use crate::settings::{Reads, Repair};
 use crate::store::Store;
 use crate::stripes::Stripe;
@@ -22,14 +22,14 @@ use std::alloc::{AllocError, Global};
 
 /// What a repair of a stripe would do: the places whose fragments it would rebuild, if the survivors that can be opened don't contradict
 /// each other, and what it couldn't: the survivors are those that it would open, which determine each of these places, and each other place
-/// of the code is named by a finding. No fragment is read, but where the files' lengths differ. Whether what is under a name stays, as
-/// `repair_stripe` would find, isn't looked at.
+/// of the code is named by a finding. No fragment is read, but where the files' lengths differ, and where the store holds opened survivors
+/// to digests that it knows. Whether what is under a name stays, as `repair_stripe` would find, isn't looked at.
 pub fn plan_stripe<S: Store>(
     alloc: Global,
     store: &S,
     repair: &Repair,
     stripe: &Stripe<'_>,
-) -> Result<Outcome, AllocError>
+) -> Result<StripeOutcome, AllocError>
     ensures lost { IfOk result (λ o. AreLost repair.now.code (is_in o.survivors) o.rebuilt.items) }
     ensures apart { IfOk result (λ o. AreApart o.rebuilt.items) }
     ensures determined { IfOk result (λ o. All (IsDetermined repair.now.code (is_in o.survivors)) o.rebuilt.items) }
@@ -43,9 +43,10 @@ pub fn plan_stripe<S: Store>(
     let mut findings = Vec::new(alloc);
     let known = length_or_note(alloc, store, code, stripe, &mut findings)?;
     let Some(length) = known else {
-        return Ok(Outcome::of(alloc, findings));
+        return Ok(StripeOutcome::of(alloc, findings));
     };
     if !matches!(repair.reads, Reads::All) {
+        // Dropped: if one of the few is noted all are opened, which notes it again.
         let mut noted = Vec::new(alloc);
         if let Some(few) = open_fewest(alloc, store, repair, stripe, length, &mut noted)? {
             let plan = planned(alloc, repair, stripe, &few.opened, findings)?;
@@ -68,7 +69,7 @@ fn planned<F>(
     stripe: &Stripe<'_>,
     opened: &Opened<F>,
     findings: Vec<Finding>,
-) -> Result<Outcome, AllocError>
+) -> Result<StripeOutcome, AllocError>
     ensures length { IfOk result (λ o. o.length ≡ opened.now.length) }
     ensures survivors { IfOk result (λ o. o.survivors ≡ opened.now.set) }
     ensures lost { IfOk result (λ o. AreLost repair.now.code (is_in o.survivors) o.rebuilt.items) }
@@ -83,7 +84,7 @@ fn planned<F>(
     let lost = lost_places(alloc, code, opened.set, among)?;
     let mut findings = findings;
     note_all(lost.several.as_slice(), &mut findings)?;
-    Ok(Outcome {
+    Ok(StripeOutcome {
         length: opened.length,
         survivors: opened.set,
         is_checked: are_checked(code, opened.set, opened.length),

@@ -14,7 +14,7 @@ use crate::attempting::make_from_fewest;
 use crate::lengths::length_or_note;
 use crate::making::{Made, discard_all, make};
 use crate::opening::open_survivors;
-use crate::outcomes::{Finding, Outcome, Reason, note_unknown};
+use crate::outcomes::{Finding, Reason, StripeOutcome, note_unknown};
 use crate::putting::{Known, put_all, settle};
 use crate::settings::{Reads, Repair};
 use crate::store::Store;
@@ -28,7 +28,7 @@ pub fn repair_stripe<S: Store>(
     store: &mut S,
     repair: &Repair,
     stripe: &Stripe<'_>,
-) -> Result<Outcome, AllocError>
+) -> Result<StripeOutcome, AllocError>
     ensures untouched { AreUntouched repair.now.replace_damaged stripe.now.name.now (S.files store.old) (S.files store.new) }
     ensures unchecked { IfOk result (λ o. o.is_checked ≡ false → AreUntouched false stripe.now.name.now (S.files store.old)
         (S.files store.new)) }
@@ -49,18 +49,18 @@ pub fn repair_stripe<S: Store>(
     let mut findings = Vec::new(alloc);
     let known = length_or_note(alloc, &*store, repair.code, stripe, &mut findings)?;
     let Some(length) = known else {
-        return Ok(Outcome::of(alloc, findings));
+        return Ok(StripeOutcome::of(alloc, findings));
     };
     let made = make_lost(alloc, store, repair, stripe, length, &mut findings)?;
     let Some(made) = made else {
         note_unknown(repair.code, stripe, &mut findings)?;
         settle(store, &mut findings)?;
-        return Ok(Outcome::of(alloc, findings));
+        return Ok(StripeOutcome::of(alloc, findings));
     };
     if has_changed(findings.as_slice()) {
         discard_all(store, made.files, &mut findings)?;
         settle(store, &mut findings)?;
-        return Ok(Outcome::of(alloc, findings));
+        return Ok(StripeOutcome::of(alloc, findings));
     }
     let survivors = made.set;
     let is_checked = made.is_checked;
@@ -73,7 +73,7 @@ pub fn repair_stripe<S: Store>(
     let mut later = Vec::new(alloc);
     let rebuilt = put_all(alloc, store, repair, stripe, &known, made, &mut later)?;
     findings.append(&mut later)?;
-    Ok(Outcome {
+    Ok(StripeOutcome {
         length,
         survivors,
         is_checked,
@@ -91,7 +91,8 @@ fn has_changed(findings: &[Finding]) -> bool
         .any(|finding| matches!(finding.reason, Reason::Changed))
 }
 
-/// Makes files for the lost fragments, from the survivors that are to be read.
+/// Makes files for the lost fragments, from the survivors that are to be read. None, and a finding that says why, where none could be made:
+/// they couldn't be created or written, or the survivors contradict each other and it isn't known which to leave out.
 fn make_lost<S: Store>(
     alloc: Global,
     store: &mut S,

@@ -14,7 +14,7 @@ use crate::lengths::length_or_note;
 use crate::losses::have_checks;
 use crate::mending::{MendFault, Survivors};
 use crate::opening::open_survivors;
-use crate::outcomes::{Finding, Outcome, Reason, note, read_fault};
+use crate::outcomes::{Finding, Reason, StripeOutcome, note, read_fault};
 use crate::store::{Fragment, Store};
 use crate::stripes::Stripe;
 use lrc_code::{Code, Place};
@@ -27,7 +27,7 @@ pub fn scrub_stripe<S: Store>(
     store: &S,
     code: Code,
     stripe: &Stripe<'_>,
-) -> Result<Outcome, AllocError>
+) -> Result<StripeOutcome, AllocError>
     ensures damaged { IfOk result (λ o. IfSome (S.files store.now) (λ files.
         All (IsDamagedFragment code (is_in o.survivors) o.length stripe.now.name.now files) (said_damaged o.findings.items))) }
     ensures silent { IfOk result (λ o. o.findings.items ≡ [] → o.is_checked ≡ true → IfSome (S.files store.now)
@@ -37,7 +37,7 @@ pub fn scrub_stripe<S: Store>(
     let mut findings = Vec::new(alloc);
     let known = length_or_note(alloc, store, code, stripe, &mut findings)?;
     let Some(length) = known else {
-        return Ok(Outcome::of(alloc, findings));
+        return Ok(StripeOutcome::of(alloc, findings));
     };
     note_lost(alloc, code, stripe, length, &mut findings)?;
     let opened = open_survivors(alloc, store, code, stripe, length, &mut findings)?;
@@ -49,7 +49,7 @@ pub fn scrub_stripe<S: Store>(
     };
     let is_checked = have_checks(code, opened.set);
     test(alloc, &survivors, is_checked, &mut findings)?;
-    Ok(Outcome {
+    Ok(StripeOutcome {
         length,
         survivors: opened.set,
         is_checked,

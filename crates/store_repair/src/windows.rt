@@ -29,7 +29,7 @@ pub(crate) struct Buffers {
 
 /// What the system refused of the file at an index.
 #[derive(Drop)]
-pub(crate) struct FileFault {
+pub(crate) struct FileError {
     pub(crate) index: usize,
     pub(crate) error: io::Error,
 }
@@ -51,7 +51,7 @@ pub(crate) fn read_window<F: Fragment>(
     from: usize,
     size: usize,
     rooms: &mut [Vec<u8>],
-) -> Result<(), FileFault>
+) -> Result<(), FileError>
     requires { length rooms.old ≡ length fragments.now }
     ensures sizes { OnOk result (HaveOrNone size (map (λ room. room.items) rooms.new)) }
     ensures window { (at : List (List ℕ)) → AreShown F.shown fragments.now at
@@ -60,7 +60,7 @@ pub(crate) fn read_window<F: Fragment>(
     for index in 0..fragments.len() {
         let room = &mut rooms[index];
         if let Err(error) = read_into(&fragments[index], from, size, room) {
-            return Err(FileFault { index, error });
+            return Err(FileError { index, error });
         }
     }
     Ok(())
@@ -132,7 +132,7 @@ pub(crate) fn append_sums<N: NewFragment>(
     slices: &[&[u8]],
     sums: &mut [u8],
     files: &mut [N],
-) -> Result<(), FileFault>
+) -> Result<(), FileError>
     requires rows { length rows.now ≡ length files.old }
     requires sizes { HaveOrNone (length sums.old) (map (λ s. s.now) slices.now) }
     ensures { OnOk result (AreAppended N.shown (map (λ s. s.now) slices.now) (length sums.old) rows.now files.old files.new) }
@@ -140,7 +140,7 @@ pub(crate) fn append_sums<N: NewFragment>(
     for index in 0..rows.len() {
         let file = &mut files[index];
         if let Err(error) = append_sum(&rows[index], slices, sums, file) {
-            return Err(FileFault { index, error });
+            return Err(FileError { index, error });
         }
     }
     Ok(())

@@ -7,7 +7,7 @@ use memory_folder::MemoryFolder;
 use std::alloc::{AllocError, Global};
 use std::process::Abort;
 use store_folder::{Site, Sums};
-use store_repair::{MemoryStore, Outcome, Reads, Reason, Repair};
+use store_repair::{MemoryStore, Reads, Reason, Repair, StripeOutcome};
 
 /// The SHA-256 digest of the byte 01, as `sha256sum` prints it.
 const OF_01: [u8; 32] = [
@@ -37,7 +37,7 @@ fn store_without(
 }
 
 /// Whether all that is lost was rebuilt from so many survivors, which are checked and cover it.
-fn is_covered_by(outcome: &Outcome, code: Code, lost: &[Place], survivors: usize) -> bool {
+fn is_covered_by(outcome: &StripeOutcome, code: Code, lost: &[Place], survivors: usize) -> bool {
     for place in lost {
         if !outcome.is_checked_at(code, *place) {
             return false;
@@ -108,7 +108,7 @@ fn assert_covered_alone(
 }
 
 /// Whether x0 and x1 were rebuilt from all others.
-fn are_of_all_eight(outcome: &Outcome) -> bool {
+fn are_of_all_eight(outcome: &StripeOutcome) -> bool {
     outcome.rebuilt.len() == 2 && outcome.survivors.len() == 8 && outcome.is_checked
 }
 
@@ -128,7 +128,7 @@ fn all_are_read_where_none_cover(rt: HostRuntime) -> Result<(), AllocError> {
 }
 
 /// What is said of the fragment at a place, if nothing else is said.
-fn said_of(outcome: &Outcome, place: Place) -> Option<&Reason> {
+fn said_of(outcome: &StripeOutcome, place: Place) -> Option<&Reason> {
     if outcome.findings.len() != 1 {
         return None;
     }
@@ -140,7 +140,7 @@ fn said_of(outcome: &Outcome, place: Place) -> Option<&Reason> {
     }
 }
 
-fn is_damaged(outcome: &Outcome, place: Place) -> bool {
+fn is_damaged(outcome: &StripeOutcome, place: Place) -> bool {
     matches!(said_of(outcome, place), Some(Reason::Damaged))
 }
 
@@ -181,7 +181,7 @@ fn repaired_with(
     rt: &HostRuntime,
     files: MemoryFolder,
     digests: &[(&str, [u8; 32])],
-) -> Result<(Outcome, MemoryFolder), AllocError> {
+) -> Result<(StripeOutcome, MemoryFolder), AllocError> {
     let mut sums = Sums::new(rt.alloc());
     for (name, digest) in digests {
         sums.set(rt.alloc(), name, *digest)?;
@@ -195,7 +195,7 @@ fn repaired_with(
 }
 
 /// Whether x1 alone was rebuilt from so many survivors.
-fn is_x1_of(outcome: &Outcome, survivors: usize) -> bool {
+fn is_x1_of(outcome: &StripeOutcome, survivors: usize) -> bool {
     outcome.rebuilt.as_slice() == [Place::X1].as_slice() && outcome.survivors.len() == survivors
 }
 
@@ -220,7 +220,7 @@ fn three_are_read_for_one_with_a_digest(rt: HostRuntime) -> Result<(), AllocErro
     assert_x1(&rt, rt.alloc(), &files)
 }
 
-fn differs(outcome: &Outcome, place: Place) -> bool {
+fn differs(outcome: &StripeOutcome, place: Place) -> bool {
     matches!(said_of(outcome, place), Some(Reason::Differs))
 }
 
@@ -235,7 +235,7 @@ fn digest_of_what_is_rebuilt_shows_damage(rt: HostRuntime) -> Result<(), AllocEr
     assert_x1(&rt, rt.alloc(), &files)
 }
 
-fn rebuilt_differs(outcome: &Outcome, place: Place) -> bool {
+fn rebuilt_differs(outcome: &StripeOutcome, place: Place) -> bool {
     matches!(said_of(outcome, place), Some(Reason::RebuiltDiffers))
 }
 
@@ -252,7 +252,7 @@ fn wrong_digest_is_said_of_what_is_rebuilt(rt: HostRuntime) -> Result<(), AllocE
     Ok(())
 }
 
-fn has_other_length(outcome: &Outcome, place: Place) -> bool {
+fn has_other_length(outcome: &StripeOutcome, place: Place) -> bool {
     matches!(said_of(outcome, place), Some(Reason::OtherLength))
 }
 

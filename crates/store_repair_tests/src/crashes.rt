@@ -8,7 +8,9 @@ use std::alloc::{AllocError, Global};
 use std::io;
 use std::process::Abort;
 use store_folder::{FolderStore, Links, Pattern, SeparateStore, Site, Sums};
-use store_repair::{Found, Outcome, Reads, Reason, Repair, Stripe, StripeFiles, repair_stripe};
+use store_repair::{
+    Found, Reads, Reason, Repair, Stripe, StripeFiles, StripeOutcome, repair_stripe,
+};
 
 /// More ways for a crash to go than these aren't tried at one call.
 const MOST_WAYS: u64 = 300;
@@ -87,7 +89,7 @@ fn repaired(
     rt: &HostRuntime,
     files: MemoryFolder,
     replace_damaged: bool,
-) -> Result<(Result<Outcome, AllocError>, MemoryFolder), AllocError> {
+) -> Result<(Result<StripeOutcome, AllocError>, MemoryFolder), AllocError> {
     repaired_at(rt, files, SITE, replace_damaged)
 }
 
@@ -97,7 +99,7 @@ fn repaired_at(
     files: MemoryFolder,
     site: Site<'_>,
     replace_damaged: bool,
-) -> Result<(Result<Outcome, AllocError>, MemoryFolder), AllocError> {
+) -> Result<(Result<StripeOutcome, AllocError>, MemoryFolder), AllocError> {
     let repair = Repair {
         code: short().code,
         reads: Reads::All,
@@ -114,7 +116,7 @@ pub(crate) fn repaired_as(
     files: MemoryFolder,
     site: Site<'_>,
     repair: Repair,
-) -> Result<(Result<Outcome, AllocError>, MemoryFolder), AllocError> {
+) -> Result<(Result<StripeOutcome, AllocError>, MemoryFolder), AllocError> {
     let alloc = rt.alloc();
     let stripe = stripe_in(alloc, &files)?;
     let mut store = SeparateStore::new(FolderStore::over(rt, files, site));
@@ -269,7 +271,7 @@ fn done_is_on_the_disk(rt: HostRuntime) -> Result<(), AllocError> {
     Ok(())
 }
 
-fn are_three_rebuilt(outcome: &Outcome) -> bool {
+fn are_three_rebuilt(outcome: &StripeOutcome) -> bool {
     outcome.findings.is_empty() && outcome.rebuilt.len() == 3
 }
 
@@ -371,11 +373,11 @@ fn sums_of_two(alloc: Global) -> Result<Sums, AllocError> {
 }
 
 /// Whether x1 alone is rebuilt, and what py would be differs from its digest.
-fn is_x1_alone_rebuilt(outcome: &Outcome) -> bool {
+fn is_x1_alone_rebuilt(outcome: &StripeOutcome) -> bool {
     outcome.rebuilt.as_slice() == [Place::X1].as_slice() && has_other_py(outcome)
 }
 
-fn has_other_py(outcome: &Outcome) -> bool {
+fn has_other_py(outcome: &StripeOutcome) -> bool {
     for finding in &outcome.findings {
         if finding.place == Some(Place::Py) && matches!(finding.reason, Reason::RebuiltDiffers) {
             return true;

@@ -7,7 +7,7 @@ use crate::samples::{
 use lrc_code::{Code, Place, PlaceSet};
 use std::alloc::{AllocError, Global};
 use std::process::Abort;
-use store_repair::{Finding, MemoryStore, Outcome, Reads, Reason, Repair};
+use store_repair::{Finding, MemoryStore, Reads, Reason, Repair, StripeOutcome};
 
 /// What is under the names of some fragments in place of a sample's.
 type Changes<'a> = &'a [(Place, &'a [u8])];
@@ -192,7 +192,7 @@ fn is_expected(finding: &Finding, damaged: Place, expected: PlaceSet) -> bool {
 }
 
 /// Whether a scrub says once that there is damage, and what is expected of it.
-fn is_suspected(outcome: &Outcome, damaged: Place, expected: PlaceSet) -> bool {
+fn is_suspected(outcome: &StripeOutcome, damaged: Place, expected: PlaceSet) -> bool {
     let mut times = 0u8;
     for finding in &outcome.findings {
         if !is_expected(finding, damaged, expected) {
@@ -292,7 +292,7 @@ fn by_guess(code: Code) -> Repair {
 }
 
 /// Whether a finding says that the fragment at a place was taken for the damaged one.
-fn is_guessed(outcome: &Outcome, place: Place) -> bool {
+fn is_guessed(outcome: &StripeOutcome, place: Place) -> bool {
     for finding in &outcome.findings {
         if finding.place == Some(place) && matches!(finding.reason, Reason::TakenForDamaged) {
             return true;
@@ -302,7 +302,7 @@ fn is_guessed(outcome: &Outcome, place: Place) -> bool {
 }
 
 /// Whether px alone was rebuilt, unchecked, by the guess that x2 is damaged.
-fn is_by_guess(outcome: &Outcome) -> bool {
+fn is_by_guess(outcome: &StripeOutcome) -> bool {
     is_guessed(outcome, Place::X2)
         && !outcome.is_checked
         && outcome.rebuilt.as_slice() == [Place::Px].as_slice()

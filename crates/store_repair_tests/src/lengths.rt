@@ -4,7 +4,7 @@ use crate::samples::{Sample, assert_there, narrow, plan, put_without, repair_as,
 use lrc_code::{Code, Place};
 use std::alloc::{AllocError, Global};
 use std::process::Abort;
-use store_repair::{MemoryStore, Outcome, Reads, Reason, Repair};
+use store_repair::{MemoryStore, Reads, Reason, Repair, StripeOutcome};
 
 /// How the stripe is repaired here.
 const REPAIR: Repair = Repair {
@@ -113,7 +113,7 @@ fn cut_store(alloc: Global, sample: &Sample, case: &Case) -> Result<MemoryStore,
 }
 
 /// Why the lengths differ, if a finding says so.
-fn difference(outcome: &Outcome) -> Option<&Reason> {
+fn difference(outcome: &StripeOutcome) -> Option<&Reason> {
     for finding in &outcome.findings {
         if matches!(finding.reason, Reason::LengthsDiffer(_)) {
             return Some(&finding.reason);
@@ -123,7 +123,7 @@ fn difference(outcome: &Outcome) -> Option<&Reason> {
 }
 
 /// Whether an outcome says of the stripe's length what a case says.
-fn says(alloc: Global, outcome: &Outcome, case: &Case) -> Result<bool, AllocError> {
+fn says(alloc: Global, outcome: &StripeOutcome, case: &Case) -> Result<bool, AllocError> {
     match (difference(outcome), case.says) {
         (None, Ok(length)) => Ok(outcome.length == length),
         (Some(reason), Err(groups)) => Ok(
@@ -172,7 +172,7 @@ fn assert_left(
     rt: &impl Abort,
     alloc: Global,
     store: &MemoryStore,
-    outcome: &Outcome,
+    outcome: &StripeOutcome,
     case: &Case,
 ) -> Result<(), AllocError> {
     match case.says {
@@ -187,7 +187,7 @@ fn assert_left(
 }
 
 /// Whether what a case has lost was rebuilt, unchecked.
-fn is_all_empty(outcome: &Outcome, case: &Case) -> bool {
+fn is_all_empty(outcome: &StripeOutcome, case: &Case) -> bool {
     outcome.rebuilt.as_slice() == case.lost && !outcome.is_checked
 }
 
@@ -205,7 +205,7 @@ fn is_untouched(store: &MemoryStore, untouched: &MemoryStore) -> bool {
 }
 
 /// The places at which a repair couldn't mend what a case has cut.
-fn left_of(outcome: &Outcome, case: &Case) -> &'static [Place] {
+fn left_of(outcome: &StripeOutcome, case: &Case) -> &'static [Place] {
     if outcome.rebuilt.len() == case.cut.len() {
         return &[];
     }

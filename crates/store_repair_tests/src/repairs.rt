@@ -6,10 +6,10 @@ use crate::samples::{
 use lrc_code::Place;
 use std::alloc::{AllocError, Global};
 use std::process::Abort;
-use store_repair::{MemoryStore, Outcome, Reason};
+use store_repair::{MemoryStore, Reason, StripeOutcome};
 
 /// Whether these fragments were rebuilt, from so many survivors.
-fn is_rebuilt(outcome: &Outcome, rebuilt: &[Place], survivors: usize) -> bool {
+fn is_rebuilt(outcome: &StripeOutcome, rebuilt: &[Place], survivors: usize) -> bool {
     outcome.rebuilt.as_slice() == rebuilt && outcome.survivors.len() == survivors
 }
 
@@ -76,7 +76,11 @@ fn three_lost_fragments_come_back(rt: HostRuntime) -> Result<(), AllocError> {
 }
 
 /// Whether a place was rebuilt from few survivors, whose number for a place of a group and for another are these.
-fn is_from_few(outcome: &Outcome, place: Place, (of_group, of_global): (usize, usize)) -> bool {
+fn is_from_few(
+    outcome: &StripeOutcome,
+    place: Place,
+    (of_group, of_global): (usize, usize),
+) -> bool {
     let survivors = match place.group() {
         Some(_) => of_group,
         None => of_global,
@@ -132,7 +136,7 @@ fn a_stripe_that_lost_two_is_repaired_from_few_survivors(
 }
 
 /// Whether there are four findings, each of a fragment that isn't determined.
-fn are_four_undetermined(outcome: &Outcome) -> bool {
+fn are_four_undetermined(outcome: &StripeOutcome) -> bool {
     for finding in &outcome.findings {
         if !matches!(finding.reason, Reason::Several) {
             return false;
@@ -157,7 +161,7 @@ fn few_survivors_leave_what_all_leave(rt: HostRuntime) -> Result<(), AllocError>
 }
 
 /// Whether a fragment at a place is noted as damaged.
-fn is_damaged(outcome: &Outcome, place: Place) -> bool {
+fn is_damaged(outcome: &StripeOutcome, place: Place) -> bool {
     for finding in &outcome.findings {
         if finding.place == Some(place) && matches!(finding.reason, Reason::Damaged) {
             return true;
@@ -180,7 +184,7 @@ fn is_damaged_or_replaced(store: &MemoryStore) -> bool {
 }
 
 /// Whether py is damaged, and both it and x0 were rebuilt and checked.
-fn is_replaced(outcome: &Outcome) -> bool {
+fn is_replaced(outcome: &StripeOutcome) -> bool {
     is_damaged(outcome, Place::Py) && outcome.is_checked && outcome.rebuilt.len() == 2
 }
 
@@ -199,7 +203,7 @@ fn damaged_fragment_is_replaced_and_kept(rt: HostRuntime) -> Result<(), AllocErr
 }
 
 /// Whether py is damaged, and x0 alone was rebuilt.
-fn is_left(outcome: &Outcome) -> bool {
+fn is_left(outcome: &StripeOutcome) -> bool {
     is_damaged(outcome, Place::Py) && outcome.rebuilt.as_slice() == [Place::X0].as_slice()
 }
 

@@ -3,8 +3,8 @@ use lrc_code::{Code, Place};
 use std::alloc::{AllocError, Global};
 use std::process::Abort;
 use store_repair::{
-    Found, MemoryStore, Outcome, Reads, Repair, Stripe, StripeFiles, plan_stripe, repair_stripe,
-    scrub_stripe,
+    Found, MemoryStore, Reads, Repair, Stripe, StripeFiles, StripeOutcome, plan_stripe,
+    repair_stripe, scrub_stripe,
 };
 
 /// A whole stripe.
@@ -107,7 +107,7 @@ pub(crate) fn repair(
     store: &mut MemoryStore,
     sample: &Sample,
     replace_damaged: bool,
-) -> Result<Outcome, AllocError> {
+) -> Result<StripeOutcome, AllocError> {
     let repair = Repair {
         code: sample.code,
         reads: Reads::All,
@@ -123,7 +123,7 @@ pub(crate) fn repair_from_few(
     alloc: Global,
     store: &mut MemoryStore,
     sample: &Sample,
-) -> Result<Outcome, AllocError> {
+) -> Result<StripeOutcome, AllocError> {
     let repair = Repair {
         code: sample.code,
         reads: Reads::Few,
@@ -140,7 +140,7 @@ pub(crate) fn repair_as(
     store: &mut MemoryStore,
     sample: &Sample,
     repair: &Repair,
-) -> Result<Outcome, AllocError> {
+) -> Result<StripeOutcome, AllocError> {
     let stripe = stripe_of(store, sample);
     repair_stripe(alloc, store, repair, &stripe)
 }
@@ -151,7 +151,7 @@ pub(crate) fn plan(
     store: &MemoryStore,
     sample: &Sample,
     repair: &Repair,
-) -> Result<Outcome, AllocError> {
+) -> Result<StripeOutcome, AllocError> {
     plan_stripe(alloc, store, repair, &stripe_of(store, sample))
 }
 
@@ -160,7 +160,7 @@ pub(crate) fn scrub(
     alloc: Global,
     store: &MemoryStore,
     sample: &Sample,
-) -> Result<Outcome, AllocError> {
+) -> Result<StripeOutcome, AllocError> {
     scrub_stripe(alloc, store, sample.code, &stripe_of(store, sample))
 }
 

@@ -73,7 +73,7 @@ pub fn finding_lines(
     Ok(lines)
 }
 
-/// The lines of the fragments of a stripe that were rebuilt and that no check covers.
+/// The lines of the fragments of a stripe that were rebuilt, or would be, and that no check covers.
 pub fn unchecked_lines(
     alloc: Global,
     results: &Results<'_>,
@@ -84,9 +84,10 @@ pub fn unchecked_lines(
         return Ok(lines);
     };
     let why = why_unchecked(&done.outcome);
+    let word = results.word;
     for place in unchecked_places(alloc, results.site, stripe.name, &done.outcome)? {
         let name = file_of(alloc, results.site, stripe, place)?;
-        lines.push(format!(in alloc; "{name}: rebuilt unchecked: {why}")?)?;
+        lines.push(format!(in alloc; "{name}: {word} unchecked: {why}")?)?;
     }
     Ok(lines)
 }

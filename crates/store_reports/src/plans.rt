@@ -4,7 +4,7 @@ ghost use Rattle.std.specs.Prelude.{◌≡◌, ◌+◌, IfOk, vec_len};
 use lrc_code::Place;
 use std::alloc::{AllocError, Global};
 use store_folder::Found;
-use store_repair::{Finding, Outcome, Reason, Repair, Stripe, is_covered};
+use store_repair::{Finding, Reason, Repair, Stripe, StripeOutcome, is_covered};
 
 /// A plan without the fragments that a repair would leave, since something is under their names that it wouldn't replace: each of these is
 /// a finding instead.
@@ -12,11 +12,11 @@ pub fn without_left(
     alloc: Global,
     repair: &Repair,
     stripe: &Stripe<'_>,
-    plan: Outcome,
-) -> Result<Outcome, AllocError>
+    plan: StripeOutcome,
+) -> Result<StripeOutcome, AllocError>
     ensures once { IfOk result (λ p. vec_len p.rebuilt + vec_len p.findings ≡ vec_len plan.rebuilt + vec_len plan.findings) }
 {
-    let Outcome {
+    let StripeOutcome {
         length,
         survivors,
         is_checked,
@@ -37,7 +37,7 @@ pub fn without_left(
             rebuilt.push(*place)?;
         }
     }
-    Ok(Outcome {
+    Ok(StripeOutcome {
         length,
         survivors,
         is_checked,
@@ -47,10 +47,14 @@ pub fn without_left(
 }
 
 /// A plan without findings, from an index on, of fragments of which an earlier one is: what is said first is why a fragment is left.
-pub fn without_repeated(alloc: Global, plan: Outcome, from: usize) -> Result<Outcome, AllocError>
+pub fn without_repeated(
+    alloc: Global,
+    plan: StripeOutcome,
+    from: usize,
+) -> Result<StripeOutcome, AllocError>
     ensures { IfOk result (λ p. p.rebuilt ≡ plan.rebuilt) }
 {
-    let Outcome {
+    let StripeOutcome {
         length,
         survivors,
         is_checked,
@@ -66,7 +70,7 @@ pub fn without_repeated(alloc: Global, plan: Outcome, from: usize) -> Result<Out
         }
         index = index.saturating_add(1);
     }
-    Ok(Outcome {
+    Ok(StripeOutcome {
         length,
         survivors,
         is_checked,

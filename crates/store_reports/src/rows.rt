@@ -1,4 +1,4 @@
-//! The rows of a report.
+//! The rows of a report, as values between commas (CSV) or as objects (JSON).
 use crate::done::Done;
 use crate::findings::{ALONE, reason_text};
 use crate::results::{Results, RowSource};
@@ -9,7 +9,7 @@ use std::alloc::{AllocError, Global};
 use std::io::{self, ErrorKind};
 use store_faults::{Descriptions, REPORT_HEADER, ROW_BEGIN};
 use store_folder::Alone;
-use store_repair::Outcome;
+use store_repair::StripeOutcome;
 
 /// The form of a report's rows.
 #[derive(Clone, Copy, Debug, PartialEq, Eq)]
@@ -79,7 +79,7 @@ fn add_rows(
     alloc: Global,
     source: RowSource<'_>,
     stripe: &str,
-    outcome: &Outcome,
+    outcome: &StripeOutcome,
     rows: Rows,
     text: &mut String,
 ) -> io::Result<()> {
@@ -144,6 +144,7 @@ fn add_descriptions(
     Ok(())
 }
 
+/// Adds a row in the form that is wanted.
 fn add_row(alloc: Global, row: &Row<'_>, rows: Rows, text: &mut String) -> io::Result<()> {
     match rows {
         Rows::Csv => add_values(alloc, row, text),

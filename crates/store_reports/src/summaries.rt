@@ -22,6 +22,7 @@ struct Names {
 }
 
 impl Names {
+    /// No names.
     fn new(alloc: Global) -> Names {
         Names {
             text: String::new(alloc),
@@ -29,6 +30,7 @@ impl Names {
         }
     }
 
+    /// Adds the name of a fragment: the first few are written, and of the rest that there are more.
     fn add(
         &mut self,
         alloc: Global,
@@ -129,6 +131,7 @@ struct Sizes {
     most: u64,
 }
 
+/// The sizes of what a repair would do, over the stripes whose fragments have one length.
 fn sizes_of(alloc: Global, results: &Results<'_>) -> Result<Sizes, AllocError> {
     let mut sizes = Sizes {
         lost: 0,

@@ -4,7 +4,7 @@ use lrc_code::{Code, Place};
 use std::alloc::{AllocError, Global};
 use store_faults::{Descriptions, fragment_name};
 use store_folder::Site;
-use store_repair::{Finding, Outcome, Reason, Stripe};
+use store_repair::{Finding, Reason, Stripe, StripeOutcome};
 
 /// Counts over all stripes.
 #[derive(Clone, Copy, Default)]
@@ -48,7 +48,10 @@ pub(crate) fn totals_of(
 }
 
 /// The places whose fragments were rebuilt, in the order of all places.
-pub(crate) fn rebuilt_places(alloc: Global, outcome: &Outcome) -> Result<Vec<Place>, AllocError> {
+pub(crate) fn rebuilt_places(
+    alloc: Global,
+    outcome: &StripeOutcome,
+) -> Result<Vec<Place>, AllocError> {
     let mut places = Vec::new(alloc);
     for place in &Place::ALL {
         if outcome.rebuilt.iter().any(|rebuilt| *rebuilt == *place) {
@@ -63,7 +66,7 @@ pub(crate) fn unchecked_places(
     alloc: Global,
     site: &Site<'_>,
     stripe: &str,
-    outcome: &Outcome,
+    outcome: &StripeOutcome,
 ) -> Result<Vec<Place>, AllocError> {
     let mut places = Vec::new(alloc);
     for place in rebuilt_places(alloc, outcome)? {
@@ -83,7 +86,7 @@ pub(crate) fn unchecked_places(
 }
 
 /// Why no check covers what was rebuilt of a stripe, where none does.
-pub(crate) fn why_unchecked(outcome: &Outcome) -> &'static str {
+pub(crate) fn why_unchecked(outcome: &StripeOutcome) -> &'static str {
     let is_guess = |finding: &Finding| { matches!(finding.reason, Reason::TakenForDamaged) };
     if outcome.findings.iter().any(is_guess) {
         "which fragment is damaged was a guess"
@@ -98,7 +101,7 @@ pub(crate) fn why_unchecked(outcome: &Outcome) -> &'static str {
 
 /// Whether a fragment is left that would be replaced if that were asked for: it is damaged or has another length, a check covers what would
 /// replace it, and nothing else is said of it.
-fn is_replaceable(code: Code, outcome: &Outcome, finding: &Finding) -> bool {
+fn is_replaceable(code: Code, outcome: &StripeOutcome, finding: &Finding) -> bool {
     let Some(place) = finding.place else {
         return false;
     };
@@ -115,7 +118,7 @@ fn is_replaceable(code: Code, outcome: &Outcome, finding: &Finding) -> bool {
 
 impl Totals {
     /// Counts what became of a stripe's fragments.
-    fn add(&mut self, code: Code, outcome: &Outcome) {
+    fn add(&mut self, code: Code, outcome: &StripeOutcome) {
         let rebuilt = outcome.rebuilt.len() as u64;
         let bytes = rebuilt.saturating_mul(outcome.length as u64);
         self.rebuilt = self.rebuilt.saturating_add(rebuilt);

@@ -6,7 +6,7 @@ use std::io;
 use std::process::Abort;
 use store_faults::{CopyFinding, CopyReason, Descriptions};
 use store_folder::{Alone, Links, Pattern, Site};
-use store_repair::{Finding, Found, Outcome, Reads, Reason, Repair, Stripe, StripeFiles};
+use store_repair::{Finding, Found, Reads, Reason, Repair, Stripe, StripeFiles, StripeOutcome};
 use store_reports::{
     Contents, Done, Results, Rows, alone_lines, finding_lines, planned, repaired, rows_of,
     scrubbed, status_of, status_of_plan, unchecked_lines, without_left, without_repeated,
@@ -131,7 +131,7 @@ fn assert_lines(rt: &impl Abort, alloc: Global, results: &Results<'_>) -> Result
 }
 
 /// What became of the stripe's fragments.
-fn outcome_of(alloc: Global) -> Result<Outcome, AllocError> {
+fn outcome_of(alloc: Global) -> Result<StripeOutcome, AllocError> {
     let mut findings = Vec::new(alloc);
     findings.push(Finding {
         place: Some(Place::X0),
@@ -141,7 +141,7 @@ fn outcome_of(alloc: Global) -> Result<Outcome, AllocError> {
         place: None,
         reason: Reason::NoSurvivor,
     })?;
-    let mut outcome = Outcome::of(alloc, findings);
+    let mut outcome = StripeOutcome::of(alloc, findings);
     outcome.length = 1536;
     outcome.rebuilt.push(Place::X0)?;
     outcome.rebuilt.push(Place::P1)?;
@@ -193,8 +193,8 @@ const PLANNED: &str =
     "1 stripe of 6-2-2, 2 KiB; 1 lost in 1; 1 can be rebuilt (1 unchecked), 0 can't; reads 4 KiB, writes 2 KiB";
 
 /// A plan to rebuild x0.
-fn plan_of(alloc: Global, is_checked: bool) -> Result<Outcome, AllocError> {
-    let mut plan = Outcome::of(alloc, Vec::new(alloc));
+fn plan_of(alloc: Global, is_checked: bool) -> Result<StripeOutcome, AllocError> {
+    let mut plan = StripeOutcome::of(alloc, Vec::new(alloc));
     plan.length = 2048;
     plan.is_checked = is_checked;
     plan.survivors = if is_checked {
@@ -216,7 +216,7 @@ fn stripe_with(under: Found) -> Stripe<'static> {
 }
 
 /// Whether a plan rebuilds x0, or else says why not.
-fn is_planned(plan: &Outcome, is_rebuilt: bool) -> bool {
+fn is_planned(plan: &StripeOutcome, is_rebuilt: bool) -> bool {
     plan.rebuilt.len() == usize::from(is_rebuilt) && plan.findings.len() == usize::from(!is_rebuilt)
 }
 
@@ -255,7 +255,7 @@ fn assert_planned(
     rt: &impl Abort,
     alloc: Global,
     stripes: &[Stripe<'_>],
-    plan: Outcome,
+    plan: StripeOutcome,
 ) -> Result<(), AllocError> {
     let all = [Done {
         index: 0,
@@ -278,7 +278,7 @@ fn assert_planned(
 /// What is said of x0, x0 again, x1 and a stripe twice: what isn't said of the same fragment before stays.
 #[test]
 fn what_is_said_of_a_fragment_first_stays(rt: HostRuntime) -> Result<(), AllocError> {
-    let outcome = Outcome::of(rt.alloc(), repeated(rt.alloc())?);
+    let outcome = StripeOutcome::of(rt.alloc(), repeated(rt.alloc())?);
     let plan = without_repeated(rt.alloc(), outcome, 1)?;
     assert_holds(&rt, are_first(plan.findings.as_slice()), "findings");
     Ok(())
@@ -321,7 +321,7 @@ fn damaged(alloc: Global, is_checked: bool, is_kept: bool) -> Result<Done, Alloc
         let reason = Reason::KeptThere;
         findings.push(Finding { place, reason })?;
     }
-    let mut outcome = Outcome::of(alloc, findings);
+    let mut outcome = StripeOutcome::of(alloc, findings);
     outcome.is_checked = is_checked;
     Ok(Done {
         index: 0,

@@ -88,6 +88,7 @@ impl<A: Allocator> Gate<A> {
         Ok((gate, seat_list, right_list))
     }
 
+    /// So many seats, each with this share of the draws, all cut off the first one, which keeps the rights.
     fn deal_seats(
         &self,
         first: &mut RawSeat,
@@ -115,6 +116,7 @@ impl<A: Allocator> Gate<A> {
         list
     }
 
+    /// So many rights, each cut off the seat that has them all.
     fn deal_rights(
         &self,
         first: &mut RawSeat,

@@ -1,4 +1,5 @@
-//! The rule that a gate's word keeps, and its kinds of step: draw, close, cut, join and look.
+//! The rule that a gate's word keeps, and its kinds of step (draw, close, cut, join, look), as types for proofs: what they do is in
+//! `gate.rt`.
 use crate::gate::record::{GateSize, SeatRecord};
 use atomic_table::{Join, Play, Split, TableRule};
 use std::marker::{Brand, PhantomData};

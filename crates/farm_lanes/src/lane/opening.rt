@@ -1,4 +1,4 @@
-//! The opening of a lane.
+//! The opening of a lane: its one queue, in which what was put first is taken first, and the ends that put and take.
 ghost use Rattle.std.specs.Prelude.{◌≡◌, ℕ, ◌+◌, ◌<◌, ◌≤◌, [], length, All, IfOk, IsOkUnless, Ok, Err, vec_capacity};
 ghost use Rattle.crossbeam_channel.specs.Claims.{IsSeatAt, view};
 ghost use Rattle.crossbeam_channel.specs.Ends.{sends_on, receives_on};
@@ -116,6 +116,7 @@ fn open_ends<T: Drop, A: Allocator + Clone>(
     Ok((puts, takes))
 }
 
+/// So many ends to put by, one for each putter, before any of them has a name.
 fn copy_sends<T: Drop, A: Allocator + Clone>(
     alloc: A,
     sends: &LaneSender<T, A>,
@@ -131,6 +132,7 @@ fn copy_sends<T: Drop, A: Allocator + Clone>(
     Ok(list)
 }
 
+/// So many ends to take by, one for each taker, before any of them has a name.
 fn copy_takes<T: Drop, A: Allocator + Clone>(
     alloc: A,
     takes: &LaneReceiver<T, A>,
@@ -146,6 +148,7 @@ fn copy_takes<T: Drop, A: Allocator + Clone>(
     Ok(list)
 }
 
+/// The ends to put by: each of these with a name of its own, cut off this one, and its number among the putters.
 fn deal_puts<T: Drop, A: Allocator>(
     sends: &LaneSender<T, A>,
     pass: &mut LanePass<T>,
@@ -173,6 +176,7 @@ fn deal_puts<T: Drop, A: Allocator>(
     puts
 }
 
+/// The ends to take by: each of these with a name of its own, cut off this one.
 fn deal_takes<T: Drop, A: Allocator>(
     sends: &LaneSender<T, A>,
     pass: &mut LanePass<T>,

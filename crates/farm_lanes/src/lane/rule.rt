@@ -1,4 +1,5 @@
-//! The rule that a lane's queue keeps, and its kinds of step: put, take, three cuts, join and read.
+//! The rule that a lane's queue keeps, and its kinds of step (put, take, three cuts, join, read), as types for proofs: what they do is in
+//! `put_end.rt` and `take_end.rt`.
 use crate::lane::item::Item;
 use crossbeam_channel::protocol::{Join, Lesson, Outcome, Protocol, Split};
 use std::collections::LinkedList;

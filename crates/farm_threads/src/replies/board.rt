@@ -11,8 +11,8 @@ ghost use Rattle.farm_orders.specs.declared.orders.Order.{Order};
 use crate::lists::Lists;
 use crate::replies::row::{Row, enter};
 use crate::replies::{CollectFault, Reply};
-use crate::slots::rack_of_slot;
-use farm_orders::RackList;
+use crate::slots::Slot;
+use farm_orders::{FeedAnswer, RackList};
 use lrc_code::Outcome;
 use std::alloc::{AllocError, Global};
 use std::marker::Model;
@@ -75,12 +75,14 @@ impl<'a> Board<'a> {
         ensures refused { IfErr result (λ e. IsNotHeld self.old reply.entry e) }
         ensures unchanged { OnErr result (self.new ≡ self.old) }
     {
-        let rack = rack_of_slot(reply.rack());
-        enter(self.rows.as_mut_slice(), rack, reply)
+        let slot = Slot {
+            number: reply.rack(),
+        };
+        enter(self.rows.as_mut_slice(), slot.rack(), reply)
     }
 
     /// Of each rack the answers to the requests of a lawful merge of its feeds, in order, each with the feed of its slot.
-    pub fn by_feed(self, alloc: Global) -> Result<Vec<Vec<(usize, Outcome)>>, AllocError>
+    pub fn by_feed(self, alloc: Global) -> Result<Vec<Vec<FeedAnswer>>, AllocError>
         ensures { IfOk result (λ v. AllZip (λ row answers. AllZip IsOutcomeOf (filled row) answers.items) self.entry.table v.items) }
     {
         let Board { lists: _, rows } = self;
@@ -98,7 +100,7 @@ impl<'a> Board<'a> {
 }
 
 /// The answers, row by row, each with its feed's number.
-fn all_by_feed(alloc: Global, rows: Vec<Row>) -> Result<Vec<Vec<(usize, Outcome)>>, AllocError>
+fn all_by_feed(alloc: Global, rows: Vec<Row>) -> Result<Vec<Vec<FeedAnswer>>, AllocError>
     ensures { IfOk result (λ v. AllZip (λ row answers. AllZip IsOutcomeOf (filled row) answers.items) rows.entry.items v.items) }
 {
     let mut all = Vec::with_capacity(alloc, rows.len())?;
@@ -109,10 +111,7 @@ fn all_by_feed(alloc: Global, rows: Vec<Row>) -> Result<Vec<Vec<(usize, Outcome)
 }
 
 /// The answers without their feeds' numbers, row by row.
-fn without_feeds(
-    alloc: Global,
-    rows: Vec<Vec<(usize, Outcome)>>,
-) -> Result<Vec<Vec<Outcome>>, AllocError>
+fn without_feeds(alloc: Global, rows: Vec<Vec<FeedAnswer>>) -> Result<Vec<Vec<Outcome>>, AllocError>
     ensures { IfOk result (λ v. AllZip (λ row answers. answers.items ≡ map (λ answer. answer.1) row.items) rows.items v.items) }
 {
     let mut all = Vec::with_capacity(alloc, rows.len())?;
@@ -123,7 +122,7 @@ fn without_feeds(
 }
 
 /// The answers of one row.
-fn outcomes_of(alloc: Global, row: Vec<(usize, Outcome)>) -> Result<Vec<Outcome>, AllocError>
+fn outcomes_of(alloc: Global, row: Vec<FeedAnswer>) -> Result<Vec<Outcome>, AllocError>
     ensures { IfOk result (λ v. v.items ≡ map (λ answer. answer.1) row.items) }
 {
     row.into_iter().map(|(_, outcome)| outcome).collect(alloc)

@@ -9,7 +9,8 @@ ghost use Rattle.farm_threads.specs.RunFeeds.{slot_feed};
 ghost use Rattle.farm_threads.specs.declared.replies.FinishFault.TheVariants.{OutOfMemory};
 
 use crate::replies::{CollectFault, FinishFault, Reply};
-use crate::slots::feed_of_slot;
+use crate::slots::Slot;
+use farm_orders::FeedAnswer;
 use lrc_code::Outcome;
 use std::alloc::{AllocError, Global};
 use std::marker::Model;
@@ -97,7 +98,7 @@ impl<'a> Row<'a> {
     }
 
     /// The answers before the first gap, each with the feed of its slot, if none of these replies says that memory was refused.
-    pub fn filled_by_feed(self, alloc: Global) -> Result<Vec<(usize, Outcome)>, AllocError>
+    pub fn filled_by_feed(self, alloc: Global) -> Result<Vec<FeedAnswer>, AllocError>
         ensures { IfOk result (λ v. AllZip IsOutcomeOf (filled self.entry) v.items) }
     {
         let Row { cells } = self;
@@ -106,7 +107,10 @@ impl<'a> Row<'a> {
             let Some(reply) = cell else {
                 return Ok(all);
             };
-            let feed = feed_of_slot(reply.rack());
+            let slot = Slot {
+                number: reply.rack(),
+            };
+            let feed = slot.feed();
             let Some(outcome) = reply.into_outcome() else {
                 return Err(AllocError);
             };

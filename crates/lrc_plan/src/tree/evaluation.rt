@@ -40,6 +40,7 @@ pub(crate) fn evaluate_scaled<A: Allocator>(
     Ok(bytes)
 }
 
+/// So many bytes, all 00.
 fn zeros(alloc: Global, len: usize) -> Result<Vec<u8>, AllocError>
     ensures len { IfOk result (λ v. length v.items ≡ len) }
     ensures zero { IfOk result (λ v. AreZeros v.items) }

@@ -78,6 +78,7 @@ impl<A: Allocator> Tree<A> {
         Ok(copies)
     }
 
+    /// Adds a copy of the scion for each leaf of the place in this tree.
     fn push_copies(
         &self,
         alloc: &A,

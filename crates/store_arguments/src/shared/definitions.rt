@@ -1,4 +1,4 @@
-//! The tables of arguments by which commands are defined, and the arguments that several commands have.
+//! The tables of arguments by which commands are defined, and the arguments that several commands have, as `--code` with the codes' names.
 use clap::{Arg, ArgAction, Command as Definition};
 use lrc_code::Code;
 use std::alloc::{AllocError, Global};

@@ -1,4 +1,4 @@
-//! How the fragments of a store are named, and which files are taken for them.
+//! How the fragments of a store are named, and which files are taken for them: `--names` and `--layout` with their defaults, links.
 use crate::faults::UsageFault;
 use crate::shared::definitions::{Argument, Form, TEXT};
 use clap::ArgMatches;

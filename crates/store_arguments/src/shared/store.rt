@@ -46,7 +46,7 @@ impl<'a> StoreOptions<'a> {
     pub(crate) fn of(matches: &ArgMatches<'a>) -> Result<StoreOptions<'a>, UsageFault> {
         let code = code_of(matches.get_str("code"));
         Ok(StoreOptions {
-            folder: matches.get_str("store").unwrap_or("."),
+            folder: folder_of(matches),
             code,
             naming: Naming::of(matches, code)?,
             links: links_of(matches),
@@ -54,6 +54,11 @@ impl<'a> StoreOptions<'a> {
             part: part_of(matches.get_str("part"))?,
         })
     }
+}
+
+/// The path of the store's folder, which the definition of each command requires: so what takes its place here is never taken.
+pub(crate) fn folder_of<'a>(matches: &ArgMatches<'a>) -> &'a str {
+    matches.get_str("store").unwrap_or(".")
 }
 
 /// The part that a text says, as `3/10`.

@@ -58,7 +58,7 @@ fn write_requests<'a>(
     };
     for stripe in &stripes {
         if store.found.described.contains(stripe.name) {
-            counts.is_left = say_descriptions(rt, &site, stripe)? || counts.is_left;
+            say_descriptions(rt, &site, stripe, &mut counts)?;
         }
         let Some(length) = length_of(rt, &files, &site, stripe)? else {
             counts.is_left = true;
@@ -111,8 +111,13 @@ fn requests_of(
     }
 }
 
-/// Says which copies of a stripe's description aren't as they should be, and whether there are any.
-fn say_descriptions(rt: &HostRuntime, site: &Site<'_>, stripe: &Stripe<'_>) -> io::Result<bool> {
+/// Says which copies of a stripe's description aren't as they should be, and notes that there are some.
+fn say_descriptions(
+    rt: &HostRuntime,
+    site: &Site<'_>,
+    stripe: &Stripe<'_>,
+    counts: &mut Counts,
+) -> io::Result<()> {
     let described = DescribedStripe {
         name: stripe.name,
         length: 0,
@@ -122,8 +127,10 @@ fn say_descriptions(rt: &HostRuntime, site: &Site<'_>, stripe: &Stripe<'_>) -> i
     for finding in &descriptions.findings {
         let text = finding.text(rt.alloc())?;
         say(rt, format!(in rt.alloc(); "rebuild-store: {text}"))?;
+        counts.is_left = true;
+        counts.is_device = counts.is_device || finding.reason.is_of_device();
     }
-    Ok(!descriptions.findings.is_empty())
+    Ok(())
 }
 
 /// How many bytes each fragment of a stripe has, 0 where none is there; none where the files' lengths differ and no check says which is

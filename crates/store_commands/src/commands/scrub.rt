@@ -59,6 +59,7 @@ fn scrub_at<'a, R: Threads + Sync>(
     test: &TestOptions<'_>,
     site: &'a Site<'a>,
 ) -> io::Result<u8> {
+    // A scrub rebuilds nothing, so no row says this.
     let word = "rebuilt";
     let rows = RowStream::new(RowSource { site, word });
     let stripes = Stripes {

@@ -1,4 +1,4 @@
-//! The file that says how far a command is, in counters that Prometheus reads.
+//! The file of `--progress`, which says how far a command is: when it is written anew, and what happens if it can't be.
 use crate::output::report_file::write_report;
 use std::alloc::Global;
 use std::io::{self, ErrorKind};
@@ -22,6 +22,7 @@ pub(crate) struct CountersFile<'a> {
 }
 
 impl<'a> CountersFile<'a> {
+    /// The counters of a command over a store, for the file at a path if one was given.
     pub(crate) fn new(
         path: Option<&'a str>,
         store: &'a str,

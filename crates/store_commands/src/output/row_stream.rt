@@ -1,18 +1,19 @@
 //! Rows that are printed as they are known, an object on each line.
 use std::alloc::AllocError;
-use std::io::{self, Error};
+use std::io::{self, Error, ErrorKind};
 use std::sync::atomic::{AtomicU64, Ordering};
 use store_faults::{say, words_of};
 use store_folder::Alone;
 use store_progress::allow_output;
 use store_reports::{Done, RowSource, Rows, add_alone, add_stripe};
 
-/// What became of the printing: nothing has failed, standard output may get no longer, or the system's number of what has failed is this
-/// more.
+/// The state of a stream of which nothing has failed.
 const FINE: u64 = 0;
 
+/// That of one whose standard output may get no longer, by the limit on files' lengths.
 const TOO_LONG: u64 = 1;
 
+/// That of one that couldn't be printed is this and the number of the system's error, 0 if it has none.
 const FAILED: u64 = 2;
 
 /// Where threads print rows side by side. No thread waits for another: what can't be printed now is held back by its thread.
@@ -25,6 +26,7 @@ pub(crate) struct RowStream<'a> {
 }
 
 impl<'a> RowStream<'a> {
+    /// A stream of which nothing was printed.
     pub(crate) fn new(source: RowSource<'a>) -> RowStream<'a> {
         RowStream {
             source,
@@ -53,7 +55,7 @@ impl<'a> RowStream<'a> {
         Ok(())
     }
 
-    /// Prints what was held back, if nothing has failed until now.
+    /// Prints what was held back, or drops it if something has failed before. Why printing failed is kept in the state, and `end` gives it.
     fn print(&self, rt: &HostRuntime, held: &mut String) -> Result<(), AllocError> {
         if held.is_empty() || self.state.load(Ordering::SeqCst) != FINE {
             held.clear();
@@ -94,8 +96,10 @@ impl<'a> RowStream<'a> {
             FINE => Ok(true),
             TOO_LONG => Ok(false),
             state => {
-                let number = i32::try_from(state.saturating_sub(FAILED)).unwrap_or(0);
-                Err(Error::from_raw_os_error(number))
+                match i32::try_from(state.saturating_sub(FAILED)).unwrap_or(0) {
+                    0 => Err(Error::from(ErrorKind::Other)),
+                    number => Err(Error::from_raw_os_error(number)),
+                }
             }
         }
     }

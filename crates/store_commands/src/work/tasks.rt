@@ -38,7 +38,7 @@ pub(crate) fn repair_task(
 pub(crate) fn scrub_task(store: &OpenStore, stripes: &[Stripe<'_>]) -> Task {
     let mut bytes = 0u64;
     for stripe in stripes {
-        bytes = bytes.saturating_add(bytes_of(store.code, stripe));
+        bytes = bytes.saturating_add(survivor_bytes(store.code, stripe));
     }
     Task {
         operation: Operation::Scrub,
@@ -67,8 +67,8 @@ pub(crate) fn bytes_read(
     Ok((survivors.len() as u64).saturating_mul(length as u64))
 }
 
-/// How many bytes the files of a stripe have together.
-pub(crate) fn bytes_of(code: Code, stripe: &Stripe<'_>) -> u64 {
+/// How many bytes the surviving fragments of a stripe have together.
+pub(crate) fn survivor_bytes(code: Code, stripe: &Stripe<'_>) -> u64 {
     let Some(length) = stripe.files.length() else {
         return 0;
     };

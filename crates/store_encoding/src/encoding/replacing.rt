@@ -166,7 +166,8 @@ fn remove_old<F: Folder>(
     Ok(())
 }
 
-/// Removes what has another name if nothing has this one: so the other has what this one has.
+/// Removes the old fragment that has the other name, if the new one with this name, which was to take its place, was lost meanwhile: an
+/// old one beside new ones would pass for one of them.
 fn remove_lost<F: Folder>(
     rt: &HostRuntime,
     files: &mut F,

@@ -1,4 +1,5 @@
 //! Standard input, kept in a file of the store's folder while it is encoded, since that takes its length first.
+use std::alloc::Global;
 use std::io::{self, ErrorKind, Read};
 use store_faults::{FileFault, device};
 use store_folder::NewFile;
@@ -20,10 +21,9 @@ impl Spool {
         let alloc = rt.alloc();
         let file = NewFile::create_private(rt, alloc, folder);
         let mut file = file.map_err(|error| device(alloc, folder, error))?;
-        match copy(rt, &mut file) {
+        match copy(rt, &mut file, folder) {
             Ok(()) => Ok(Spool { file }),
-            Err(error) => {
-                let fault = device(alloc, "standard input", error);
+            Err(fault) => {
                 let _ = file.discard(rt);
                 Err(fault)
             }
@@ -43,10 +43,11 @@ impl Spool {
     }
 }
 
-/// Writes standard input to a new file.
-fn copy(rt: &HostRuntime, file: &mut NewFile) -> io::Result<()> {
+/// Writes standard input to a new file in a folder.
+fn copy(rt: &HostRuntime, file: &mut NewFile, folder: &str) -> Result<(), FileFault> {
+    let alloc = rt.alloc();
     let most = most_file_bytes(rt).unwrap_or(u64::MAX);
-    let mut block = Vec::from_elem(rt.alloc(), 0u8, BLOCK)?;
+    let mut block = Vec::from_elem(alloc, 0u8, BLOCK)?;
     let mut input = rt.stdin();
     let mut written = 0u64;
     for _read in 0..u64::MAX {
@@ -54,15 +55,21 @@ fn copy(rt: &HostRuntime, file: &mut NewFile) -> io::Result<()> {
             Ok(0) => return Ok(()),
             Ok(many) => many,
             Err(error) if error.kind() == ErrorKind::Interrupted => continue,
-            Err(error) => return Err(error),
+            Err(error) => return Err(of_input(alloc, error)),
         };
         written = written.saturating_add(many as u64);
         if written > most {
-            return Err(too_long());
+            return Err(of_input(alloc, too_long()));
         }
         let all = block.as_slice();
         let (bytes, _) = all.split_at(many.min(all.len()));
-        file.append(bytes)?;
+        file.append(bytes)
+            .map_err(|error| device(alloc, folder, error))?;
     }
     Ok(())
+}
+
+/// That standard input can't be read, or is too long.
+fn of_input(alloc: Global, error: io::Error) -> FileFault {
+    device(alloc, "standard input", error)
 }

@@ -8,25 +8,33 @@ ghost use Rattle.store_encoding.specs.Own.{has, is_own, shares_none};
 
 use std::alloc::{AllocError, Global};
 use store_files::Target;
-use store_folder::{SUMS_NAME, description_names};
+use store_folder::{SUMS_NAME, description_names, first_description_name};
 use store_names::is_free;
 
 /// The names in the store of a stripe's files.
 #[derive(Drop)]
 pub(crate) struct StripeFiles {
+    /// Also the description in the store's own folder, if none is made there: in a store that was made before it may be the only one.
     pub(crate) fragments: Vec<String>,
     pub(crate) descriptions: Vec<String>,
 }
 
 impl StripeFiles {
+    /// Those of a stripe in a store.
     pub(crate) fn of(
         alloc: Global,
         target: &Target<'_>,
         stripe: &str,
     ) -> Result<StripeFiles, AllocError> {
+        let descriptions = description_names(alloc, &target.pattern, target.code, stripe)?;
+        let mut fragments = target.names(alloc, stripe)?;
+        let first = first_description_name(alloc, stripe)?;
+        if !has(descriptions.as_slice(), first.as_str()) {
+            fragments.push(first)?;
+        }
         Ok(StripeFiles {
-            descriptions: description_names(alloc, &target.pattern, target.code, stripe)?,
-            fragments: target.names(alloc, stripe)?,
+            fragments,
+            descriptions,
         })
     }
 }
@@ -69,6 +77,7 @@ fn are_own(names: &[String]) -> bool
     names.iter().all(|name| is_own(name.as_str()))
 }
 
+/// Whether a name is one that a stripe's file can have: none that an unfinished file has, and not that of the digests.
 fn is_own(name: &str) -> bool
     ensures { result ≡ (is_free name.now && not (bytes_eq name.now (codes "SHA256SUMS"))) }
 {
@@ -84,12 +93,14 @@ fn share_none(names: &[String], fragments: &[String], descriptions: &[String]) -
         .all(|name| is_none_of(name.as_str(), fragments, descriptions))
 }
 
+/// Whether a name is none of these.
 fn is_none_of(name: &str, fragments: &[String], descriptions: &[String]) -> bool
     ensures { result ≡ (not (has fragments.now name.now) && not (has descriptions.now name.now)) }
 {
     !has(fragments, name) && !has(descriptions, name)
 }
 
+/// Whether a name is among some.
 fn has(names: &[String], name: &str) -> bool
     ensures { result ≡ list_any (λ other. bytes_eq (string_bytes other) name.now) names.now }
 {

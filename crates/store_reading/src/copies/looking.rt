@@ -51,6 +51,7 @@ impl Seen {
         Ok(seen)
     }
 
+    /// Looks at what is under the name of a copy, and adds that; whether it has to be there is given.
     fn add(
         &mut self,
         rt: &HostRuntime,

@@ -1,4 +1,5 @@
 use Rattle.std.proofs.Common.{◌≡◌, ◌∙◌, ◌+◌, ◌*◌, ◌≤◌, Bor, Vec, Global, ℕ, List, [], All, ap, arith, le_refl, length, map, refl, subst}
+use Rattle.farm_orders.specs.Limits.{order_limit}
 use Rattle.std.proofs.Common.{sym}
 use Rattle.std.specs.List.{AllZip}
 use Rattle.std.proofs.lemmas.Simd.{map-map}
@@ -155,7 +156,7 @@ returns-clause-few g c =
 pub returns-clause-answered : goal.returns-clause-answered
 returns-clause-answered g c =
     let (reads, so, most, same, failed, few) = c.loop-first.invariant in
-    let all : c.loop-first.first ≡ 4096 = omega (arith, most, c.loop-first-test.false) in (
+    let all : c.loop-first.first ≡ order_limit = omega (arith, most, c.loop-first-test.false) in (
       reads,
       rw (c.in_ok-one_rack.ensures.answers, c.in_ok-one_rack.ensures.requests)
           (so_far_all (g.I.Shelf.files c.args.input.now) c.args.lists.now reads c.loop-first.so_far.answers.items

@@ -1,4 +1,5 @@
 use Rattle.std.proofs.Common.{◌≡◌, ◌≤◌, ◌∙◌, Vec, Global, List, ℕ, Some, ap, sym, subst, arith, length, map, option_map}
+use Rattle.farm_reading.specs.Limits.{rack_answers}
 use Rattle.std.specs.List.{AllZip, All}
 use Rattle.std.specs.Prelude.{sum_by}
 use Rattle.std.proofs.lemmas.Result.{err_from_is_err_and}
@@ -118,7 +119,7 @@ count_answers-requires-clause-racks g c =
 
 pub count_answers-requires-clause-few : goal.count_answers-requires-clause-few
 count_answers-requires-clause-few g c =
-    subst (λ (os : List Answers). All (λ (a : Answers). length a.items ≤ 16384) os) (sym c.as_slice-5.ensures.value)
+    subst (λ (os : List Answers). All (λ (a : Answers). length a.items ≤ rack_answers) os) (sym c.as_slice-5.ensures.value)
     (all_few c.in_ok-lists.lists.items c.in_ok-answers.field-0.answers.items c.in_ok-lists.ensures.feeds c.in_ok-lists.ensures.orders
     (fit g (goal.at.count_answers-requires-clause-few g c).After-as_slice-3))
 

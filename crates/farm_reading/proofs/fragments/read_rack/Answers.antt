@@ -1,4 +1,5 @@
 use Rattle.std.proofs.Common.{◌≡◌, ◌∙◌, ◌≤◌, Bor, Vec, Global, List, ap, arith, length, map, subst, sym}
+use Rattle.farm_reading.specs.Limits.{rack_answers}
 use Rattle.std.proofs.lemmas.Simd.{map-map}
 use Rattle.farm_lists.specs.Requests.{listed_before_close}
 use Rattle.farm_lists.specs.declared.listing.Record.{Record}
@@ -18,7 +19,7 @@ the_lists g c = ap (map lent) c.as_slice.ensures.value ∙ c.in_ok-whole.ensures
 
 -- and their records are few
 few : (g : Rattle.farm_reading.proofs.fragments.read_rack.Given.Over) (c : After-as_slice g)
-    → record_count (map lent c.as_slice.result.now) ≤ 16384
+    → record_count (map lent c.as_slice.result.now) ≤ rack_answers
 few g c =
     let same = ap record_count (the_lists g c) in
     omega (arith, same, count_few c.args.lists.now c.requires.orders, c.requires.feeds)

@@ -1,4 +1,5 @@
 use Rattle.std.proofs.Common.{◌≡◌, ◌<◌, ◌≤◌, ◌∙◌, ◌∷◌, ◌==◌, [], ℕ, zero, suc, true, false, true≢false, List, arith, ap, sym, length, subst}
+use Rattle.farm_orders.specs.Limits.{order_limit}
 use Rattle.std.proofs.Common.{All, Vec, Global}
 use Rattle.std.proofs.lemmas.Bool.Decides.{nat_tests}
 use Rattle.std.proofs.lemmas.List.{length-append, length-map}
@@ -47,7 +48,7 @@ loop-rack-preserved g c =
       (let P : Rack → Type 0 = λ feeds. (0 < length feeds) × (length feeds ≤ 4) in
           subst (λ (vs : List Rack). All P vs) (sym items)
           (All-push P c.loop-rack.racks.items rack few (omega (arith, sized, some), omega (arith, sized, c.in_ok-feeds.ensures.feeds)))),
-      (let P : Rack → Type 0 = λ feeds. All (λ (list : List Record). length list ≤ 4096) feeds in
+      (let P : Rack → Type 0 = λ feeds. All (λ (list : List Record). length list ≤ order_limit) feeds in
           subst (λ (vs : List Rack). All P vs) (sym items)
           (All-push P c.loop-rack.racks.items rack small (subst P (sym is) (lists_few here.items c.in_ok-feeds.ensures.orders)))),
       λ there e.

@@ -1,4 +1,5 @@
 use Rattle.std.proofs.Common.{◌≡◌, ◌<◌, ◌≤◌, All, List, Some, length}
+use Rattle.farm_orders.specs.Limits.{order_limit}
 use Rattle.farm_lists.specs.declared.listing.Record.{Record}
 use Rattle.farm_shelves.specs.Files.{Files}
 use Rattle.farm_reading.specs.Reading.{HaveLists}
@@ -10,5 +11,5 @@ invariant-loop-rack g l =
     × (g.I.Shelf.failed l.input ≡ g.I.Shelf.failed l.fn.input)
     × (length l.racks.items ≡ l.rack)
     × All (λ (feeds : List (List Record)). (0 < length feeds) × (length feeds ≤ 4)) l.racks.items
-    × All (λ (feeds : List (List Record)). All (λ (list : List Record). length list ≤ 4096) feeds) l.racks.items
+    × All (λ (feeds : List (List Record)). All (λ (list : List Record). length list ≤ order_limit) feeds) l.racks.items
     × ((there : Files) → g.I.Shelf.files l.fn.input ≡ Some there → HaveLists there 0 l.racks.items)

@@ -1,4 +1,5 @@
 use Rattle.std.proofs.Common.{◌≡◌, ◌≤◌, ◌∙◌, ◌∷◌, [], List, arith, ap, sym, length, subst, All, Vec, Global}
+use Rattle.farm_orders.specs.Limits.{order_limit}
 use Rattle.std.proofs.lemmas.List.{length-append}
 use Rattle.std.proofs.lemmas.List.Elements.{All-push}
 use Rattle.std.proofs.lemmas.Result.{err_from_is_err_and}
@@ -15,7 +16,7 @@ loop-feed-preserved g c =
       c.in_ok-list.ensures.calm ∙ calm,
       ap length items ∙ omega (arith, size, length-append c.loop-feed.feeds.items (c.in-Some.list ∷ [])),
       (let listed = rw c.in-Some.is at c.in_ok-list.ensures.few in
-          let P : Vec Record Global → Type 0 = λ v. length v.items ≤ 4096 in
+          let P : Vec Record Global → Type 0 = λ v. length v.items ≤ order_limit in
           subst (λ (vs : List (Vec Record Global)). All P vs) (sym items) (All-push P c.loop-feed.feeds.items c.in-Some.list small listed)),
       λ there e. rw items (feeds_push there c.args.rack c.loop-feed.feeds.items c.in-Some.list c.loop-feed.feed size (have there e)
           (rw c.in-Some.is at c.in_ok-list.ensures.list there (same ∙ e))),

@@ -11,7 +11,7 @@ pub returns-clause-refused : goal.returns-clause-refused
 returns-clause-refused c =
     let table = vec_items c.self.inside.rows in
     let Q : ℕ × List (List (Option Entry)) → Type 0 = λ p. IfErr c.enter.result (λ e. IsNotEntered p.1 p.0 c.args.reply e) in
-    let rack_is = c.rack_of_slot-rack.ensures ∙ ap slot_rack c.rack.ensures in
+    let rack_is = c.rack-2.ensures ∙ ap slot_rack c.rack.ensures in
     subst (λ (b : Held). IfErr c.enter.result (λ e. IsNotHeld b c.args.reply e)) c.self.view_is
     (if_err (IsNotEntered table (slot_rack c.args.reply.rack) c.args.reply) _ c.enter.result
     (not_held (lists_of c.self.inside.lists) table c.self.invariant c.args.reply)

@@ -28,8 +28,8 @@ loop-cell-preserved c =
     let says = c.in-Some-into_outcome.ensures.done in (
       rw append_assoc (was.0 ∙ ap (λ (t : List (Option Replied)). done ++ t) step),
       outcomes_more IsOutcomeOf done c.in-Some.cell c.in-Some-cell.reply (vec_items c.loop-cell.all) (vec_items c.push_reserved.new.self)
-          (c.feed_of_slot-feed.result, c.in-Some-into_outcome.outcome)
-          was.1 c.in-Some-cell.is (c.feed_of_slot-feed.ensures ∙ ap slot_feed c.rack.ensures, says.1, says.0) c.push_reserved.ensures.items,
+          (c.feed-feed.result, c.in-Some-into_outcome.outcome)
+          was.1 c.in-Some-cell.is (c.feed-feed.ensures ∙ ap slot_feed c.rack.ensures, says.1, says.0) c.push_reserved.ensures.items,
       search rules,
       search rules,
       (let a = length_push done c.in-Some.cell in let b = was.4 in let d = c.in-Some.ensures.steps.1 in omega arith),

@@ -1,6 +1,6 @@
 use Rattle.std.proofs.Common.{refl}
 use Rattle.farm_threads.specs.RunFeeds.{slot_feed}
-use Rattle.farm_threads.proofs.slots.feed_of_slot.Goals as goal
+use Rattle.farm_threads.proofs.slots.Slot.feed.Goals as goal
 
 pub returns : goal.returns
 unfolding slot_feed

@@ -1,7 +1,7 @@
 use Rattle.std.proofs.Common.{◌≡◌, ◌∙◌, ◌-◌, ap, arith, length, min, drop, take, replicate, subst, ◌++◌}
 use Rattle.std.specs.Prelude.{OnOk}
 use Rattle.store_repair.proofs.FileLemmas.{begin_at, read_shown}
-use Rattle.store_repair.proofs.parts.PartFragment.read_at.Goals as goal
+use Rattle.store_repair.proofs.parts.FilePartFragment.read_at.Goals as goal
 
 pub returns : goal.returns
 returns g c =

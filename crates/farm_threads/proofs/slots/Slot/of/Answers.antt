@@ -1,6 +1,6 @@
 use Rattle.std.proofs.Common.{refl}
 use Rattle.farm_threads.specs.RunFeeds.{slot_of}
-use Rattle.farm_threads.proofs.slots.slot_number.Goals as goal
+use Rattle.farm_threads.proofs.slots.Slot.of.Goals as goal
 
 pub returns : goal.returns
 unfolding slot_of

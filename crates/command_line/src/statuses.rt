@@ -1,11 +1,4 @@
 //! The exit statuses of the program, of line mode and of the command `farm` alike.
-//!
-//! ```
-//! use exit_statuses::{DONE, USAGE};
-//!
-//! let status = if is_understood { DONE } else { USAGE };
-//! ```
-#![tactic(auto)]
 
 /// All was answered, or what was asked for was shown.
 pub const DONE: u8 = 0;
