@@ -360,18 +360,17 @@ def test_folder_by_folder(place, choose):
             for of, data in stripe("6-2-2", 24, choose).items():
                 path = store / of / folder / name
                 all_of_it[path] = data
+                path.parent.mkdir(parents=True, exist_ok=True)
                 if of not in ("x2", "p0"):
-                    path.parent.mkdir(parents=True, exist_ok=True)
                     path.write_bytes(data)
-    for of in ("x2", "p0"):
-        (store / of).mkdir()
     for number, folder in enumerate(folders):
         pattern = f"{{place}}/{folder}/{{stripe}}"
         if has_strace():
             trace, done = traced(place, "openat", "lost", "--names", pattern, store)
-            check(len(done.stdout.splitlines()) == 10, f"{done}")
-            opened = {found for found in re.findall(r'openat\([^"]*"([^"]*)"[^)]*O_DIRECTORY', trace) if found.startswith(f"{store}/")}
-            check(opened and all(pathlib.Path(it).name == folder for it in opened), f"{folder}: {sorted(opened)}")
+            check(len(done.stdout.splitlines()) == 11, f"{done}")
+            opened = {pathlib.Path(it) for it in re.findall(r'openat\([^"]*"([^"]*)"[^)]*O_DIRECTORY', trace)}
+            inside = {it for it in opened if store in it.parents}
+            check(inside and all(it.name == folder for it in inside), f"{folder}: {sorted(opened)}")
         said, _ = run("repair", "--names", pattern, store)
         check(said.count("\n") == 1 and "10 fragments" in said, said)
         there = {path: path.read_bytes() for path in store.rglob("*") if path.is_file()}
