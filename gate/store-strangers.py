@@ -872,7 +872,7 @@ def test_descriptions_that_cannot_be_read(place, choose):
         for command in ("scrub", "lost", "read"):
             words = ["note", *DISKS[2:]] if command == "read" else DISKS
             ended = subprocess.run([PROGRAM, command, store, *words, "--follow-links"], capture_output=True)
-            said = ended.stderr.decode()
+            said = ended.stderr.decode() + ("" if command == "read" else ended.stdout.decode())
             is_read = command == "read" and many == 1
             hold(ended.returncode == (0 if is_read else 3), f"{command}: status {ended.returncode}: {said}")
             hold(command != "read" or ended.stdout == (data if is_read else b""), "other bytes are read")
