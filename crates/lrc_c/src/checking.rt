@@ -27,7 +27,8 @@ pub(crate) struct CheckRows<'s, 'a> {
 }
 
 /// Tests whether the rows' combinations are 00 at every position, and writes what is wanted, in one pass. Where some combination isn't 00
-/// the rooms are written up to some position, and the answer is false.
+/// the rooms are written up to some position, and the answer is false. A room in which nothing is wanted is empty; one fragment alone is
+/// written by `write_value`.
 pub(crate) fn write_if_zero(
     checks: &CheckRows,
     wants: &Wants,

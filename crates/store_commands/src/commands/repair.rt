@@ -30,33 +30,27 @@ pub fn repair<R: Threads + Sync>(
     refuse_outputs(system, &options.test)?;
     let opening = opening_of(options);
     let store = open_store(system, &opening)?;
-    let ended = repair_open(rt, system, &store, &opening, options);
-    if ended.is_err() {
-        // Also one that is refused leaves no lock; why it was is what is said.
-        let _ = store.locks.release(system);
-    }
-    ended
-}
-
-/// Repairs the stripes of an open store, and gives its locks back.
-fn repair_open<R: Threads + Sync>(
-    rt: &R,
-    system: &HostRuntime,
-    store: &OpenStore,
-    opening: &Opening<'_>,
-    options: &RepairOptions<'_>,
-) -> Result<u8, FileFault> {
-    let stripes = store.stripes(system)?;
+    let stripes = store
+        .stripes(system)
+        .map_err(|_| refused(system, &store, FileFault::OutOfMemory))?;
     if !options.dry_run {
-        refuse_long(system, store.code, stripes.as_slice())?;
+        refuse_long(system, store.code, stripes.as_slice()).map_err(|fault| refused(
+            system, &store, fault,
+        ))?;
     }
     let repair = repair_of(store.code, options);
-    let task = repair_task(system.alloc(), store, &repair, stripes.as_slice())?;
+    let task = repair_task(system.alloc(), &store, &repair, stripes.as_slice()).map_err(|_| refused(
+        system,
+        &store,
+        FileFault::OutOfMemory,
+    ))?;
     let is_quiet = options.test.quiet || options.dry_run;
-    let counters = counters_of(system, task, is_quiet, &options.test, opening.folder)?;
+    let counters = counters_of(system, task, is_quiet, &options.test, opening.folder).map_err(
+        |_| refused(system, &store, FileFault::OutOfMemory),
+    )?;
     let opened = Opened {
-        store,
-        opening,
+        store: &store,
+        opening: &opening,
         stripes: stripes.as_slice(),
         counters: &counters,
     };
@@ -66,6 +60,12 @@ fn repair_open<R: Threads + Sync>(
         system,
         ended.map_err(|error| device(system.alloc(), opening.folder, error)),
     )
+}
+
+/// Gives the locks of a repair back that is refused before it begins, and says why it is.
+fn refused(rt: &HostRuntime, store: &OpenStore, fault: FileFault) -> FileFault {
+    let _ = store.locks.release(rt);
+    fault
 }
 
 /// Refuses stripes of which fragments are lost that are longer than files may get here: the system would end the run at the first of them.
