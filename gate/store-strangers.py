@@ -849,15 +849,6 @@ def test_descriptions_of_before(place, choose):
     del whole["SHA256SUMS"]
     hold(below(store) == {**whole, "note.file": line}, "the copies weren't made")
     run("scrub", store, *DISKS, status=0)
-    # Replacing the file leaves no description of the old one.
-    source = place / "note"
-    source.write_bytes(choose.randbytes(2_002))
-    for words in (["--replace"], []):
-        run("encode", *words, store, source, *DISKS, status=0)
-        hold("note.file" not in below(store), "the old description stays")
-        run("scrub", store, *DISKS, status=0)
-    ended = subprocess.run([PROGRAM, "read", store, "note", *DISKS[2:]], capture_output=True)
-    hold(ended.returncode == 0 and ended.stdout == source.read_bytes(), ended.stderr.decode())
 
 
 def test_descriptions_that_cannot_be_read(place, choose):

@@ -8,13 +8,12 @@ ghost use Rattle.store_encoding.specs.Own.{has, is_own, shares_none};
 
 use std::alloc::{AllocError, Global};
 use store_files::Target;
-use store_folder::{SUMS_NAME, description_names, first_description_name};
+use store_folder::{SUMS_NAME, description_names};
 use store_names::is_free;
 
 /// The names in the store of a stripe's files.
 #[derive(Drop)]
 pub(crate) struct StripeFiles {
-    /// Also the description in the store's own folder, if none is made there: in a store that was made before it may be the only one.
     pub(crate) fragments: Vec<String>,
     pub(crate) descriptions: Vec<String>,
 }
@@ -26,15 +25,9 @@ impl StripeFiles {
         target: &Target<'_>,
         stripe: &str,
     ) -> Result<StripeFiles, AllocError> {
-        let descriptions = description_names(alloc, &target.pattern, target.code, stripe)?;
-        let mut fragments = target.names(alloc, stripe)?;
-        let first = first_description_name(alloc, stripe)?;
-        if !has(descriptions.as_slice(), first.as_str()) {
-            fragments.push(first)?;
-        }
         Ok(StripeFiles {
-            fragments,
-            descriptions,
+            descriptions: description_names(alloc, &target.pattern, target.code, stripe)?,
+            fragments: target.names(alloc, stripe)?,
         })
     }
 }
