@@ -3,13 +3,14 @@
 
     refused.py [CRATE..]    those of these crates, or of all
 
-They are the edits of crates/*/wrong-bodies with a line `refused in: FUNCTION`. Each is made in a copy of its crate, in which this function
-is proved, with what it calls; what else is in the crate is proved without the edit, and says nothing of it. The crates below are taken as
-a run of `rt ci` has proved them in the folder that PROVED_IN names, as the gate does, or else as tools/build.py leaves them here. What was
-proved for one edit of a crate is kept for the next.
+They are the edits of crates/*/wrong-bodies with a line `refused in: FUNCTION`. They are made in copies of their crate, in which these
+functions are proved, with what they call; what else is in the crate is proved without the edits, and says nothing of them. A function is
+judged by the contracts of what it calls, which no edit changes, so edits with different functions are tried in one copy. The crates below
+are taken as a run of `rt ci` has proved them in the folder that PROVED_IN names, as the gate does, or else as tools/build.py leaves them
+here. What was proved for one copy of a crate is kept for the next.
 
 Refused is an edit only if the prover reads it and doesn't prove this function, and not because a proof cites a name that the edit takes
-away. The status is 1 where one isn't."""
+away. If anything else is said of a copy, each of its edits is tried alone. The status is 1 where one isn't refused."""
 
 import concurrent.futures
 import os
@@ -42,7 +43,7 @@ SHOWN = 12
 
 
 def edits_of(crate):
-    """The edits of a crate that are tried, each with the function that has to refuse it."""
+    """The edits of a crate that are tried, with the function that has to refuse each."""
     found = []
     for edit in sorted((crate.folder / "wrong-bodies").glob("*.edit")):
         if name := FUNCTION.search(edit.read_text(encoding="utf-8")):
@@ -50,8 +51,20 @@ def edits_of(crate):
     return found
 
 
-def command(crate, function, kept):
-    """The prover's words for the proof of a function and of what it calls."""
+def in_copies(edits):
+    """These edits, with their functions, as they are tried in one copy each: none has two of one function."""
+    copies = []
+    for edit, function in edits:
+        fits = next((it for it in copies if function not in [its for _, its in it]), None)
+        if fits is None:
+            copies.append([(edit, function)])
+        else:
+            fits.append((edit, function))
+    return copies
+
+
+def command(crate, functions, kept):
+    """The prover's words for the proof of functions and of what they call."""
     kit = pathlib.Path(subprocess.run(["rt", "doc"], check=True, capture_output=True, text=True).stdout.strip()).parent
     own = {it.name: BELOW / "crates" / it.name / "out/rlib" for it in crate.all_below()}
     words = [kit / "bin/rattle", "check", "--crate-name", crate.name, "src/lib.rt"]
@@ -60,7 +73,8 @@ def command(crate, function, kept):
     for folder in [kit / "rlibs", *own.values()]:
         words += ["-L", f"dependency={folder}"]
     words += ["--antt-project", kit / "rattle/logic/antt-project.json", "--logic-built", kit / "logic_built"]
-    return [*words, "--jobs", "1", "--incremental", kept, "--only", function]
+    words += ["--jobs", "1", "--incremental", kept]
+    return words + [it for function in functions for it in ("--only", function)]
 
 
 def fault(crate, function, status, said):
@@ -80,42 +94,45 @@ def fault(crate, function, status, said):
     return None
 
 
-def seconds_of(status_and_use):
-    """The seconds of a processor that a process had."""
-    use = status_and_use[2]
-    return use.ru_utime + use.ru_stime
-
-
-def try_one(crate, edit, function, room):
-    """Tries an edit in a room; gives what is wrong, with what the prover said, or None, and how many seconds it took."""
-    place, said = room / edit.stem, room / f"{edit.stem}.said"
+def try_copy(crate, tried, room):
+    """Tries edits, with their functions, in one copy of their crate; gives the prover's status, what it said, and its processor seconds."""
+    place, said = room / "copy", room / "said"
     for part in build.PARTS:
         if (crate.folder / part).is_dir():
             shutil.copytree(crate.folder / part, place / part)
-    edits.edited(edit, place)
+    for edit, _ in tried:
+        edits.edited(edit, place)
     with open(said, "w") as out:
-        words = command(crate, function, room / "kept")
+        words = command(crate, [function for _, function in tried], room / "kept")
         process = subprocess.Popen(words, cwd=place, stdin=subprocess.DEVNULL, stdout=out, stderr=subprocess.STDOUT)
-        ended = os.wait4(process.pid, 0)
-    process.returncode = os.waitstatus_to_exitcode(ended[1])
-    text = said.read_text(errors="replace")
-    why = fault(crate, function, process.returncode, text)
+        _, status, use = os.wait4(process.pid, 0)
+    process.returncode = os.waitstatus_to_exitcode(status)
     shutil.rmtree(place)
-    told = [it for it in text.splitlines() if not it.startswith("statements ")]
-    return why and "\n".join([why, *told[-SHOWN:]]), seconds_of(ended)
+    return process.returncode, said.read_text(errors="replace"), use.ru_utime + use.ru_stime
+
+
+def faults_of(crate, tried, room):
+    """Why these edits, with their functions, aren't refused, for each that isn't; and the seconds of a processor that this took."""
+    status, said, seconds = try_copy(crate, tried, room)
+    faults = {edit: why for edit, function in tried if (why := fault(crate, function, status, said))}
+    if len(tried) > 1 and (faults or any(LOST_NAME.match(it) for it in said.splitlines())):
+        alone = [faults_of(crate, [it], room) for it in tried]
+        return {edit: why for found, _ in alone for edit, why in found.items()}, seconds + sum(it for _, it in alone)
+    told = [it for it in said.splitlines() if not it.startswith("statements ")]
+    return {edit: "\n".join([why, *told[-SHOWN:]]) for edit, why in faults.items()}, seconds
 
 
 def try_crate(crate):
-    """Tries the edits of a crate, says what has become of each, and gives how many are refused and how many aren't."""
-    refused = others = 0
+    """Tries the edits of a crate, says what has become of each that isn't refused, and gives how many are and how many aren't."""
+    tried, faults, all_seconds = edits_of(crate), {}, 0
     with tempfile.TemporaryDirectory(prefix="refused-") as room:
-        for edit, function in edits_of(crate):
-            why, seconds = try_one(crate, edit, function, pathlib.Path(room))
-            timed.keep(edit=edit.stem.replace("_", " "), of=crate.name, seconds=seconds)
-            if why:
-                print(f"refused: {crate.name}/{edit.stem}: {why}", flush=True)
-            refused, others = (refused, others + 1) if why else (refused + 1, others)
-    return refused, others
+        for copy in in_copies(tried):
+            found, seconds = faults_of(crate, copy, pathlib.Path(room))
+            faults, all_seconds = {**faults, **found}, all_seconds + seconds
+    for edit, why in faults.items():
+        print(f"refused: {crate.name}/{edit.stem}: {why}", flush=True)
+    timed.keep(edits=len(tried), of=crate.name, seconds=all_seconds)
+    return len(tried) - len(faults), len(faults)
 
 
 def main(names):

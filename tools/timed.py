@@ -199,10 +199,10 @@ def table():
     rows.append(("all", *[f"{it:.0f}" for it in sums], "", ""))
     for name, *others in rows:
         print(f"{name:<20}" + "".join(f"{it:>8}" for it in others).rstrip())
-    bodies = sorted(kept("edit"), key=lambda it: -it["seconds"])
-    print(f"\nThe seconds of each wrong body, {sum(it['seconds'] for it in bodies):.0f} in all.")
+    bodies = sorted(kept("edits"), key=lambda it: -it["seconds"])
+    print(f"\nThe seconds of each crate's wrong bodies, {sum(it['seconds'] for it in bodies):.0f} in all, and how many they are.")
     for it in bodies:
-        print(f"{it['of']:<16}{it['edit']:<56}{it['seconds']:>8.0f}")
+        print(f"{it['of']:<20}{it['seconds']:>8.0f}{it['edits']:>8}")
     known = [it["known"] for it in kept("known")]
     if known:
         print(f"Proved by an earlier run, and kept: {', '.join(known)}")
