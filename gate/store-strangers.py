@@ -849,6 +849,42 @@ def test_descriptions_of_before(place, choose):
     del whole["SHA256SUMS"]
     hold(below(store) == {**whole, "note.file": line}, "the copies weren't made")
     run("scrub", store, *DISKS, status=0)
+    # Replacing the file leaves no description of the old one.
+    source = place / "note"
+    source.write_bytes(choose.randbytes(2_002))
+    for words in (["--replace"], []):
+        run("encode", *words, store, source, *DISKS, status=0)
+        hold("note.file" not in below(store), "the old description stays")
+        run("scrub", store, *DISKS, status=0)
+    ended = subprocess.run([PROGRAM, "read", store, "note", *DISKS[2:]], capture_output=True)
+    hold(ended.returncode == 0 and ended.stdout == source.read_bytes(), ended.stderr.decode())
+    # Neither does removing it.
+    (store / "note.file").write_bytes(line)
+    run("remove", store, "note", *DISKS, status=0)
+    hold(set(below(store)) <= {"SHA256SUMS"}, f"{sorted(below(store))} stay")
+
+
+def test_files_named_like_descriptions(place, choose):
+    """What is named like a description in the store's own folder and says nothing of a file stays there."""
+    store, _, line = encoded_disks(place, choose)
+    source, other = place / "note", store / "note.file"
+    lines = {"text": b"minutes of a meeting\n", "empty": b"", "long": b"7" * 100_000, "two lines": line + line}
+    for kind, text in lines.items():
+        other.write_bytes(text)
+        source.write_bytes(choose.randbytes(2_003))
+        run("encode", "--replace", store, source, *DISKS, status=0)
+        hold(other.read_bytes() == text, f"{kind}: replacing the file changed it")
+    other.unlink()
+    for make in (other.mkdir, lambda: other.symlink_to(source), lambda: os.mkfifo(other), lambda: other.write_bytes(b"minutes\n")):
+        make()
+        before = os.lstat(other)
+        source.write_bytes(choose.randbytes(2_004))
+        run("encode", "--replace", store, source, *DISKS, status=0)
+        run("remove", store, "note", *DISKS, status=0)
+        hold(os.lstat(other) == before, "removing the file changed it")
+        hold(not list(store.glob("disk*/note*")), "fragments stay")
+        other.rmdir() if other.is_dir() and not other.is_symlink() else other.unlink()
+        run("encode", store, source, *DISKS, status=0)
 
 
 def test_descriptions_that_cannot_be_read(place, choose):

@@ -10,8 +10,8 @@ use crate::taking::take_files;
 use folders::Folder;
 use std::alloc::{AllocError, Global};
 use store_faults::{FileFault, device};
-use store_files::{Target, is_there, no_stored, refuse_linked, staged_name};
-use store_folder::SystemFolder;
+use store_files::{Target, is_there, no_stored, own_description, refuse_linked, staged_name};
+use store_folder::{SystemFolder, description_names};
 use store_repair::NameFault;
 
 /// Takes the file of a name out of a store, with what a run has left that was to replace it, and with the folders that it had alone. What
@@ -26,8 +26,8 @@ pub fn remove_stored(
         return Err(no_stored(alloc, name, target.folder)?);
     }
     let staged = staged_name(alloc, name)?;
-    let mut descriptions = target.descriptions(alloc, name)?;
-    for description in target.descriptions(alloc, staged.as_str())? {
+    let mut descriptions = descriptions_of(rt, target, name)?;
+    for description in descriptions_of(rt, target, staged.as_str())? {
         descriptions.push(description)?;
     }
     let mut fragments = target.names(alloc, name)?;
@@ -54,6 +54,19 @@ pub fn remove_stored(
     )?;
     remove_own_folders(rt, target, staged.as_str(), name)?;
     Ok(remove_own_folders(rt, target, name, staged.as_str())?)
+}
+
+/// The names of a stripe's descriptions that go with it.
+fn descriptions_of(
+    rt: &HostRuntime,
+    target: &Target<'_>,
+    stripe: &str,
+) -> Result<Vec<String>, FileFault> {
+    let mut names = description_names(rt.alloc(), &target.pattern, target.code, stripe)?;
+    if let Some(own) = own_description(rt, target, stripe)? {
+        names.push(own)?;
+    }
+    Ok(names)
 }
 
 /// Writes the digests that are left, and takes the files of some descriptions and fragments away. Whenever that ends, each of them has what

@@ -1,6 +1,7 @@
 //! What the copies of a file's description say.
 use crate::staging::{has_some, no_stored};
 use crate::stored_file::StoredFile;
+use crate::target::Target;
 use lrc_code::{Code, Place};
 use std::alloc::Global;
 use std::fs;
@@ -88,6 +89,29 @@ pub fn first_described(
         }
     }
     Ok(None)
+}
+
+/// The name of the description of a stripe in the store's own folder, which a store that was made before has beside the copies that are
+/// made now. What is there under that name and says nothing of a file is somebody else's, so then there is none.
+pub fn own_description(
+    rt: &HostRuntime,
+    target: &Target<'_>,
+    stripe: &str,
+) -> Result<Option<String>, FileFault> {
+    let alloc = rt.alloc();
+    let first = first_description_name(alloc, stripe)?;
+    let copies = description_names(alloc, &target.pattern, target.code, stripe)?;
+    if copies.iter().any(|copy| copy.as_str() == first.as_str()) {
+        return Ok(None);
+    }
+    let path = target.path(alloc, first.as_str())?;
+    match read_description(rt, path.as_str(), target.links) {
+        Ok(said) => Ok(said.map(|_said| first)),
+        Err(error) if is_absent(error.kind()) || error.kind() == ErrorKind::InvalidInput => {
+            Ok(None)
+        }
+        Err(error) => Err(device(alloc, path.as_str(), error)),
+    }
 }
 
 /// What descriptions say, each once, first what most say.

@@ -20,8 +20,10 @@ use std::alloc::{AllocError, Global};
 use std::slice;
 use std::thread::Threads;
 use store_faults::{FileFault, device};
-use store_files::{StoredFile, Target, first_described, is_begun, refuse_linked, staged_name};
-use store_folder::{SystemFolder, give_name};
+use store_files::{
+    StoredFile, Target, first_described, is_begun, own_description, refuse_linked, staged_name,
+};
+use store_folder::{SystemFolder, first_description_name, give_name};
 
 /// Replaces the file of a name.
 pub(crate) fn replace<R: Threads + Sync>(
@@ -61,10 +63,17 @@ pub(crate) fn finish_replacing(
     if !is_begun(rt, &file, target.code)? {
         return Ok(());
     }
-    let begun = StripeFiles::of(alloc, target, staged)?;
+    let mut begun = StripeFiles::of(alloc, target, staged)?;
+    let mut replaced = StripeFiles::of(alloc, target, name)?;
+    if let Some(own) = own_description(rt, target, name)? {
+        // Nothing has the other name, so that it goes as an old fragment does whose new one was lost.
+        replaced.fragments.push(own)?;
+        begun
+            .fragments
+            .push(first_description_name(alloc, staged)?)?;
+    }
     refuse_linked(rt, target, begun.descriptions.as_slice())?;
     refuse_linked(rt, target, begun.fragments.as_slice())?;
-    let replaced = StripeFiles::of(alloc, target, name)?;
     if !are_apart(target.folder, &begun, &replaced) {
         return Err(no_name(rt, name)?);
     }
