@@ -101,6 +101,20 @@ def serve(farm, shape, scratch):
     return int(microseconds) / 1000, int(kilobytes) * 1024 / 1e6, int(faults), int(switches)
 
 
+def futex_calls(farm, shape, scratch):
+    """How often threads waited or were woken by the system, in a run that isn't timed; None if perf isn't there to count them."""
+    counts, out = scratch / "counts", scratch / farm
+    shutil.rmtree(out, ignore_errors=True)
+    out.mkdir()
+    words = ["perf", "stat", "-x,", "-e", "syscalls:sys_enter_futex", "-o", counts, *command(farm, shape, scratch)]
+    try:
+        subprocess.run(words, check=True, capture_output=True)
+    except (FileNotFoundError, subprocess.CalledProcessError):
+        return None
+    count = counts.read_text().splitlines()[-1].partition(",")[0]
+    return int(count) if count.isdigit() else None
+
+
 def compare(farm, scratch):
     names = sorted(os.listdir(scratch / "ours"))
     differing = filecmp.cmpfiles(scratch / "ours", scratch / farm, names, shallow=False)[1:]
@@ -125,23 +139,28 @@ def time_shape(shape, peers, scratch):
             it.wait()
     for farm in farms[1:]:
         compare(farm, scratch)
+    waits = {farm: futex_calls(farm, shape, scratch) for farm in farms if farm in ("ours", "careless")}
     for farm in farms:
         shutil.rmtree(scratch / farm)
-    return {farm: min(run[farm] for run in runs) for farm in farms}, max(run["ours"][1] for run in runs)
+    return {farm: min(run[farm] for run in runs) for farm in farms}, waits, max(run["ours"][1] for run in runs)
 
 
 def has_sha():
     return "sha_ni" in pathlib.Path("/proc/cpuinfo").read_text().split()
 
 
-def row(number, shape, fastest, peak):
+def shown(count):
+    return "-" if count is None else f"{count:,}"
+
+
+def row(number, shape, fastest, waits, peak):
     ours = fastest["ours"][0]
     cells = [str(number), shape.name(), str(shape.threads), f"{ours:.0f}"]
     for peer in PEERS:
         cells += [f"{fastest[peer][0]:.0f}", f"{fastest[peer][0] / ours:.2f}"] if peer in fastest else ["-", "-"]
-    for column in (2, 3):
-        theirs = f" ({fastest['careless'][column]:,})" if "careless" in fastest else ""
-        cells.append(f"{fastest['ours'][column]:,}{theirs}")
+    counts = [{farm: fastest[farm][column] for farm in fastest} for column in (2, 3)]
+    for count in (*counts, waits):
+        cells.append(shown(count["ours"]) + (f" ({shown(count['careless'])})" if "careless" in count else ""))
     load = os.getloadavg()[0]
     return f"| {' | '.join(cells)} | {peak:.0f} | {load:.1f} |"
 
@@ -157,8 +176,8 @@ def main(level, numbers):
         print(f"\nFolders of so many racks and requests for fragments of so many bytes, half of them in one group, in {scratch.parent}:")
         print(f"ms from the program's start to its end, the least of {PASSES} runs in turn. A ratio is the C program's time over ours.\n")
         print("| | Folder | Workers | ours | careful C | ratio | batching C | ratio | careless C | ratio | page faults (careless C's) |"
-              " switches (careless C's) | our peak MB | load |")
-        print("|---|---|---|---|---|---|---|---|---|---|---|---|---|---|")
+              " switches (careless C's) | futex calls (careless C's) | our peak MB | load |")
+        print("|---|---|---|---|---|---|---|---|---|---|---|---|---|---|---|")
         with_sha = has_sha()
         for number, shape in enumerate(SHAPES, 1):
             if (not numbers or number in numbers) and (with_sha or not shape.withheld):

@@ -24,6 +24,10 @@ use std::thread::{Promise, PromisedHandle, Scope, Threads};
 /// A put end may put fewer items than this.
 const MOST_PUTS: u64 = 4_294_967_295;
 
+/// The memory that a worker takes and gives back before its first job. The C library keeps it for the thread's answers, each of which else
+/// has it ask the system for a few pages.
+const ROOM: usize = 4_194_304;
+
 /// What a worker gives back: its ends, the one that puts ended.
 #[derive(Drop)]
 pub struct Worked<'a> {
@@ -134,6 +138,8 @@ fn work_with<'a, R: Wait, P: Pause>(
     if shared.refused.worker.load(Ordering::SeqCst) == number {
         idle(shared.rt, jobs, replies)
     } else {
+        // Without that memory it works as well.
+        drop(Vec::<u8>::with_capacity(shared.alloc, ROOM));
         work(shared.rt, shared.alloc, jobs, replies, shared.pause)
     }
 }
