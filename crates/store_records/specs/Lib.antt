@@ -1,2 +1,3 @@
 pub mod Descriptions
+pub mod SumLines
 pub mod Sums

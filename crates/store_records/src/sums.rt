@@ -1,7 +1,9 @@
 //! Sums: the SHA-256 digests of files, listed by names as `sha256sum` writes them. Lines end in a line feed, also after a carriage return.
 //! Empty lines and those that begin with `#` say nothing.
-ghost use Rattle.std.specs.Prelude.{◌≡◌, ℕ, List, None, OnOk, Some, if◌then◌else◌, is_some, option_copied};
+ghost use Rattle.std.specs.Prelude.{◌≡◌, ◌++◌, IfOk, ℕ, List, None, OnOk, Some, if◌then◌else◌, is_some, option_copied};
+ghost use Rattle.std.specs.List.{list_any};
 ghost use Rattle.std.specs.Str.{bytes_eq};
+ghost use Rattle.store_records.specs.SumLines.{escaped_byte, is_escaped, sum_line, sum_lines};
 ghost use Rattle.store_records.specs.Sums.{digest_in};
 
 use crate::digits::digits_of;
@@ -100,7 +102,9 @@ impl Sums {
     }
 
     /// The lines as `sha256sum` writes them, in the order of the names.
-    pub fn text(&self, alloc: Global) -> Result<Vec<u8>, AllocError> {
+    pub fn text(&self, alloc: Global) -> Result<Vec<u8>, AllocError>
+        ensures { IfOk result (λ text. text.items ≡ sum_lines self.now) }
+    {
         let mut text = Vec::new(alloc);
         for (name, digest) in self.digests.iter() {
             append_line(alloc, name.as_slice(), digest, &mut text)?;
@@ -184,23 +188,38 @@ fn append_line(
     name: &[u8],
     digest: &[u8; 32],
     text: &mut Vec<u8>,
-) -> Result<(), AllocError> {
-    if name
-        .iter()
-        .any(|byte| *byte == b'\\' || *byte == b'\n' || *byte == b'\r')
-    {
+) -> Result<(), AllocError>
+    ensures { OnOk result (text.new.items ≡ text.old.items ++ sum_line name.now digest.now) }
+{
+    if has_escaped(name) {
         text.push(b'\\')?;
     }
     text.extend_from_slice(digits_of(alloc, digest)?.as_bytes())?;
     text.extend_from_slice(b"  ".as_slice())?;
     for byte in name {
-        match *byte {
-            b'\\' => text.extend_from_slice(b"\\\\".as_slice())?,
-            b'\n' => text.extend_from_slice(b"\\n".as_slice())?,
-            b'\r' => text.extend_from_slice(b"\\r".as_slice())?,
-            other => text.push(other)?,
-        }
+        append_escaped(*byte, text)?;
     }
     text.push(b'\n')?;
+    Ok(())
+}
+
+/// Whether a line has something of a name in another form.
+fn has_escaped(name: &[u8]) -> bool
+    ensures { result ≡ list_any is_escaped name.now }
+{
+    name.iter()
+        .any(|byte| *byte == b'\\' || *byte == b'\n' || *byte == b'\r')
+}
+
+/// Appends a byte of a name as an escaped name has it.
+fn append_escaped(byte: u8, text: &mut Vec<u8>) -> Result<(), AllocError>
+    ensures { OnOk result (text.new.items ≡ text.old.items ++ escaped_byte byte) }
+{
+    match byte {
+        b'\\' => text.extend_from_slice(b"\\\\".as_slice())?,
+        b'\n' => text.extend_from_slice(b"\\n".as_slice())?,
+        b'\r' => text.extend_from_slice(b"\\r".as_slice())?,
+        other => text.push(other)?,
+    }
     Ok(())
 }
