@@ -1,1 +1,2 @@
 pub mod OneName
+pub mod Unescaped

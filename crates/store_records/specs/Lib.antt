@@ -1,3 +1,4 @@
 pub mod Descriptions
+pub mod ReadLines
 pub mod SumLines
 pub mod Sums

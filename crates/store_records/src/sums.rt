@@ -1,8 +1,11 @@
 //! Sums: the SHA-256 digests of files, listed by names as `sha256sum` writes them. Lines end in a line feed, also after a carriage return.
 //! Empty lines and those that begin with `#` say nothing.
-ghost use Rattle.std.specs.Prelude.{◌≡◌, ◌++◌, IfOk, ℕ, List, None, OnOk, Some, if◌then◌else◌, is_some, option_copied};
+ghost use Rattle.std.specs.Prelude.{◌≡◌, ◌++◌, ◌⊎◌, IfErr, IfOk, ℕ, List, None, OnErr, OnOk, Some, if◌then◌else◌, is_some};
+ghost use Rattle.std.specs.Prelude.{option_copied, option_map};
 ghost use Rattle.std.specs.List.{list_any};
 ghost use Rattle.std.specs.Str.{bytes_eq};
+ghost use Rattle.store_records.specs.ReadLines.{digest_with, fault_by, fault_of, is_separator, said_after, said_by, said_in};
+ghost use Rattle.store_records.specs.ReadLines.{stands_for, unescaped, without_dot, without_return};
 ghost use Rattle.store_records.specs.SumLines.{escaped_byte, is_escaped, sum_line, sum_lines};
 ghost use Rattle.store_records.specs.Sums.{digest_in};
 
@@ -36,12 +39,20 @@ pub enum LineFault {
 }
 
 impl From<AllocError> for LineFault {
+    ghost use Rattle.store_records.specs.declared.sums.LineFault.TheVariants.{OutOfMemory};
+
+    ghost from_gives = { λ _ fault. fault ≡ OutOfMemory };
+
     fn from(_error: AllocError) -> LineFault {
         LineFault::OutOfMemory
     }
 }
 
 impl<T: Drop> From<AllocFailed<T>> for LineFault {
+    ghost use Rattle.store_records.specs.declared.sums.LineFault.TheVariants.{OutOfMemory};
+
+    ghost from_gives = { λ _ fault. fault ≡ OutOfMemory };
+
     fn from(_failed: AllocFailed<T>) -> LineFault {
         LineFault::OutOfMemory
     }
@@ -113,14 +124,33 @@ impl Sums {
     }
 
     /// Takes what the line of a number says, without its line feed.
-    pub fn read_line(&mut self, alloc: Global, line: &[u8], number: u64) -> Result<(), LineFault> {
-        let line = line.strip_suffix(b"\r".as_slice()).unwrap_or(line);
+    pub fn read_line(&mut self, alloc: Global, line: &[u8], number: u64) -> Result<(), LineFault>
+        ensures taken { OnOk result (fault_of self.old number line.now ≡ None) }
+        ensures refused { IfErr result (λ fault. (fault ≡ LineFault.OutOfMemory)
+            ⊎ (fault_of self.old number line.now ≡ Some fault)) }
+        ensures said { OnOk result ((name : List ℕ) → digest_in self.new name
+            ≡ digest_with self.old (said_in line.now) name) }
+        ensures unchanged { OnErr result ((name : List ℕ) → digest_in self.new name ≡ digest_in self.old name) }
+    {
+        let line = without_return(line);
         if line.is_empty() || line.starts_with(b"#".as_slice()) {
             return Ok(());
         }
-        let Some(sum) = sum_of(alloc, line)? else {
-            return Err(LineFault::NotASum { line: number });
-        };
+        match sum_of(alloc, line)? {
+            Some(sum) => self.take(sum, number),
+            None => Err(LineFault::NotASum { line: number }),
+        }
+    }
+
+    /// Takes what the line of a number says of a file.
+    fn take(&mut self, sum: Sum, number: u64) -> Result<(), LineFault>
+        ensures taken { OnOk result (fault_by self.old number (Some (sum.name.items, sum.digest)) ≡ None) }
+        ensures refused { IfErr result (λ fault. (fault ≡ LineFault.OutOfMemory)
+            ⊎ (fault_by self.old number (Some (sum.name.items, sum.digest)) ≡ Some fault)) }
+        ensures said { OnOk result ((name : List ℕ) → digest_in self.new name
+            ≡ digest_with self.old (Some (sum.name.items, sum.digest)) name) }
+        ensures unchanged { OnErr result ((name : List ℕ) → digest_in self.new name ≡ digest_in self.old name) }
+    {
         let digest = sum.digest;
         if let Some(earlier) = self.digests.get(sum.name.as_slice()) {
             if *earlier != digest {
@@ -133,53 +163,105 @@ impl Sums {
     }
 }
 
+/// A line without the carriage return that may be at its end.
+fn without_return(line: &[u8]) -> &[u8]
+    ensures { result.now ≡ without_return line.now }
+{
+    line.strip_suffix(b"\r".as_slice()).unwrap_or(line)
+}
+
 /// What a line says, if it has the form.
-fn sum_of(alloc: Global, line: &[u8]) -> Result<Option<Sum>, AllocError> {
-    let (escapes, line) = match line.strip_prefix(b"\\".as_slice()) {
-        Some(rest) => (true, rest),
-        None => (false, line),
-    };
+fn sum_of(alloc: Global, line: &[u8]) -> Result<Option<Sum>, AllocError>
+    ensures { IfOk result (λ sum. option_map (λ s. (s.name.items, s.digest)) sum ≡ said_by line.now) }
+{
+    match line.strip_prefix(b"\\".as_slice()) {
+        Some(rest) => sum_after(alloc, true, rest),
+        None => sum_after(alloc, false, line),
+    }
+}
+
+/// What a line says, if it has the form, without the backslash that says that its name is escaped.
+fn sum_after(alloc: Global, is_escaped: bool, line: &[u8]) -> Result<Option<Sum>, AllocError>
+    ensures { IfOk result (λ sum. option_map (λ s. (s.name.items, s.digest)) sum ≡ said_after is_escaped line.now) }
+{
     if line.len() <= BEFORE_NAME {
         return Ok(None);
     }
     let (before, name) = line.split_at(BEFORE_NAME);
     let (digits, separator) = before.split_at(64);
-    if separator != b"  ".as_slice() && separator != b" *".as_slice() {
+    if !is_separator(separator) {
         return Ok(None);
     }
     let Ok(digest) = <[u8; 32] as FromHex>::from_hex(digits) else {
         return Ok(None);
     };
-    let name = name.strip_prefix(b"./".as_slice()).unwrap_or(name);
-    let name = if escapes {
-        unescaped(alloc, name)?
-    } else {
-        Some(Vec::from_slice(alloc, name)?)
-    };
-    Ok(name.map(|name| Sum { name, digest }))
+    match name_of(alloc, is_escaped, without_dot(name))? {
+        Some(name) => Ok(Some(Sum { name, digest })),
+        None => Ok(None),
+    }
+}
+
+/// Whether bytes may be between the digits and the name.
+fn is_separator(bytes: &[u8]) -> bool
+    ensures { result ≡ is_separator bytes.now }
+{
+    bytes == b"  ".as_slice() || bytes == b" *".as_slice()
+}
+
+/// A text without the `./` that may be before it.
+fn without_dot(text: &[u8]) -> &[u8]
+    ensures { result.now ≡ without_dot text.now }
+{
+    text.strip_prefix(b"./".as_slice()).unwrap_or(text)
+}
+
+/// The name that a text stands for, which is escaped or not.
+fn name_of(alloc: Global, is_escaped: bool, text: &[u8]) -> Result<Option<Vec<u8>>, AllocError>
+    ensures { IfOk result (λ name. option_map (λ n. n.items) name
+        ≡ (if is_escaped then unescaped text.now else Some text.now)) }
+{
+    if is_escaped {
+        return unescaped(alloc, text);
+    }
+    Ok(Some(Vec::from_slice(alloc, text)?))
 }
 
 /// A name whose backslashes, line feeds and carriage returns are written as `\\`, `\n` and `\r`; none where something else is after a
 /// backslash.
-fn unescaped(alloc: Global, text: &[u8]) -> Result<Option<Vec<u8>>, AllocError> {
+fn unescaped(alloc: Global, text: &[u8]) -> Result<Option<Vec<u8>>, AllocError>
+    ensures { IfOk result (λ name. option_map (λ n. n.items) name ≡ unescaped text.now) }
+{
     let mut name = Vec::new(alloc);
     let mut is_after_backslash = false;
     for byte in text {
         if is_after_backslash {
+            let Some(meant) = stands_for(*byte) else {
+                return Ok(None);
+            };
+            name.push(meant)?;
             is_after_backslash = false;
-            match *byte {
-                b'\\' => name.push(b'\\')?,
-                b'n' => name.push(b'\n')?,
-                b'r' => name.push(b'\r')?,
-                _ => return Ok(None),
-            }
         } else if *byte == b'\\' {
             is_after_backslash = true;
         } else {
             name.push(*byte)?;
         }
     }
-    Ok((!is_after_backslash).then_some(name))
+    if is_after_backslash {
+        return Ok(None);
+    }
+    Ok(Some(name))
+}
+
+/// The byte that a byte after a backslash stands for.
+fn stands_for(byte: u8) -> Option<u8>
+    ensures { result ≡ stands_for byte }
+{
+    match byte {
+        b'\\' => Some(b'\\'),
+        b'n' => Some(b'\n'),
+        b'r' => Some(b'\r'),
+        _ => None,
+    }
 }
 
 /// Appends the line of a file.
