@@ -2,5 +2,10 @@ pub mod AllPlaces
 pub mod Distinct
 pub mod Free
 pub mod Keys
+pub mod Marks
+pub mod Numbers
 pub mod Partition
 pub mod Pieces
+pub mod RunLaws
+pub mod RunNames
+pub mod RunTexts

@@ -3,4 +3,7 @@ pub mod Layouts
 pub mod Names
 pub mod Parts
 pub mod Patterns
+pub mod RunFiles
+pub mod RunLaws
 pub mod Temporary
+pub mod Texts
