@@ -1,5 +1,6 @@
 pub mod AllPlaces
 pub mod Distinct
+pub mod Folders
 pub mod Free
 pub mod Keys
 pub mod Marks

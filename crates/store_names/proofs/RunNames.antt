@@ -1,5 +1,5 @@
 -- The names of runs' files, read from the texts that they are cut into.
-use Rattle.std.proofs.Common.{◌≡◌, ◌∙◌, sym, ap, subst, inl, inr, ℕ, ◌<◌, arith, Bool, true, false, List, [], ◌∷◌, ◌++◌, codes, length}
+use Rattle.std.proofs.Common.{Decides, ◌≡◌, ◌∙◌, sym, ap, subst, inl, inr, ℕ, ◌<◌, arith, Bool, true, false, List, [], ◌∷◌, ◌++◌, codes, length}
 use Rattle.std.proofs.lemmas.Bool.{both_ways}
 use Rattle.std.proofs.lemmas.List.{append_cancel_left}
 use Rattle.store_names.specs.Texts.{IsAroundLast, lacks}
@@ -7,7 +7,7 @@ use Rattle.store_names.specs.RunFiles.{IsLeftBy, IsLock, IsOfRuns, IsOfTag, IsOf
 use Rattle.store_names.specs.RunFiles.IsOwn.{own_digits, own_of_run}
 use Rattle.store_names.specs.RunFiles.IsOfUnfinished.{bare, tagged}
 use Rattle.store_names.proofs.Marks.{last_same, not_both}
-use Rattle.store_names.proofs.RunTexts.{Tells, never, random_lacks_dash, run_in_same}
+use Rattle.store_names.proofs.RunTexts.{never, random_lacks_dash, run_in_same}
 
 -- ---- what follows a tag
 
@@ -21,10 +21,10 @@ module _ (text run digits : List ℕ) (at : IsAroundLast 45 text run digits) whe
       let same = last_same 45 other run more digits (random_lacks_dash more random) at.last (sym is ∙ at.is) in
       (subst IsRun same.0 says, ap is_random (sym same.1) ∙ random)
 
-  pub own_yes : (b : Bool) → is_random digits ≡ true → Tells b (IsRun run) → Tells b (IsOwn text)
+  pub own_yes : (b : Bool) → is_random digits ≡ true → Decides b (IsRun run) → Decides b (IsOwn text)
   own_yes b random tells = (λ yes. own_of_run run digits at.is (tells.0 yes) random, λ own. tells.1 (own_parts own).0)
 
-  pub own_not_digits : (b : Bool) → b ≡ is_random digits → b ≡ false → Tells b (IsOwn text)
+  pub own_not_digits : (b : Bool) → b ≡ is_random digits → b ≡ false → Decides b (IsOwn text)
   own_not_digits b is_b gone = (λ yes. absurd (both_ways b gone yes), λ own. is_b ∙ (own_parts own).1)
 
 -- ---- an unfinished file's name
@@ -33,7 +33,7 @@ module _ (name rest : List ℕ) (is : name ≡ codes ".rebuild-store-" ++ rest) 
   pub rest_same : (other : List ℕ) → name ≡ codes ".rebuild-store-" ++ other → rest ≡ other
   rest_same other is_other = append_cancel_left (codes ".rebuild-store-") rest other (sym is ∙ is_other)
 
-  pub unfinished_bare : (b : Bool) → lacks 45 rest ≡ true → b ≡ is_random rest → Tells b (IsOfUnfinished name)
+  pub unfinished_bare : (b : Bool) → lacks 45 rest ≡ true → b ≡ is_random rest → Decides b (IsOfUnfinished name)
   unfinished_bare b lack is_b = (λ yes. bare rest is (sym is_b ∙ yes), λ file. is_b ∙ from file) where
     from : IsOfUnfinished name → is_random rest ≡ true
     from (bare digits is_name random) = ap is_random (rest_same digits is_name) ∙ random
@@ -48,13 +48,13 @@ module _ (name rest : List ℕ) (is : name ≡ codes ".rebuild-store-" ++ rest) 
         (sym (rest_same (tag ++ (45 ∷ more)) is_name) ∙ at.is) in
         (subst IsTag same.0 says, ap is_random (sym same.1) ∙ random)
 
-    pub unfinished_yes : (b : Bool) → is_random digits ≡ true → Tells b (IsTag before) → Tells b (IsOfUnfinished name)
+    pub unfinished_yes : (b : Bool) → is_random digits ≡ true → Decides b (IsTag before) → Decides b (IsOfUnfinished name)
     unfinished_yes b random tells = (
       λ yes. tagged before digits (is ∙ ap (λ t. codes ".rebuild-store-" ++ t) at.is) (tells.0 yes) random,
       λ file. tells.1 (unfinished_parts file).0,
     )
 
-    pub unfinished_not_digits : (b : Bool) → b ≡ is_random digits → b ≡ false → Tells b (IsOfUnfinished name)
+    pub unfinished_not_digits : (b : Bool) → b ≡ is_random digits → b ≡ false → Decides b (IsOfUnfinished name)
     unfinished_not_digits b is_b gone = (λ yes. absurd (both_ways b gone yes), λ file. is_b ∙ (unfinished_parts file).1)
 
 module _ (name : List ℕ) (none : (rest : List ℕ) → name ≡ codes ".rebuild-store-" ++ rest → ⊥) where
@@ -62,19 +62,19 @@ module _ (name : List ℕ) (none : (rest : List ℕ) → name ≡ codes ".rebuil
   no_start (bare digits is _) = none digits is
   no_start (tagged tag digits is _ _) = none (tag ++ (45 ∷ digits)) is
 
-  pub not_unfinished : Tells false (IsOfUnfinished name)
+  pub not_unfinished : Decides false (IsOfUnfinished name)
   not_unfinished = never no_start
 
-  pub not_lock : Tells false (IsLock name)
+  pub not_lock : Decides false (IsLock name)
   not_lock = never (λ lock. none (codes "part-" ++ lock.part) lock.is)
 
-  pub not_of_tag : (tag : List ℕ) → Tells false (IsOfTag tag name)
+  pub not_of_tag : (tag : List ℕ) → Decides false (IsOfTag tag name)
   not_of_tag tag = never (λ file. none (tag ++ file.own) file.is)
 
 -- ---- a lock's name, and those with a tag
 
 module _ (name rest : List ℕ) (is : name ≡ codes ".rebuild-store-" ++ rest) where
-  pub lock_yes : (part : List ℕ) (b : Bool) → rest ≡ codes "part-" ++ part → Tells b (IsPart (codes "of-") part) → Tells b (IsLock name)
+  pub lock_yes : (part : List ℕ) (b : Bool) → rest ≡ codes "part-" ++ part → Decides b (IsPart (codes "of-") part) → Decides b (IsLock name)
   lock_yes part b is_rest tells = (
     λ yes. record {
       part = part;
@@ -85,10 +85,10 @@ module _ (name rest : List ℕ) (is : name ≡ codes ".rebuild-store-" ++ rest) 
         (sym is_rest ∙ rest_same name rest is (codes "part-" ++ lock.part) lock.is))) lock.is_part),
   )
 
-  pub lock_not_part : ((part : List ℕ) → rest ≡ codes "part-" ++ part → ⊥) → Tells false (IsLock name)
+  pub lock_not_part : ((part : List ℕ) → rest ≡ codes "part-" ++ part → ⊥) → Decides false (IsLock name)
   lock_not_part none = never (λ lock. none lock.part (rest_same name rest is (codes "part-" ++ lock.part) lock.is))
 
-  pub of_tag_yes : (tag own : List ℕ) (b : Bool) → rest ≡ tag ++ own → Tells b (IsOwn own) → Tells b (IsOfTag tag name)
+  pub of_tag_yes : (tag own : List ℕ) (b : Bool) → rest ≡ tag ++ own → Decides b (IsOwn own) → Decides b (IsOfTag tag name)
   of_tag_yes tag own b is_rest tells = (
     λ yes. record {
       own = own;
@@ -99,18 +99,18 @@ module _ (name rest : List ℕ) (is : name ≡ codes ".rebuild-store-" ++ rest) 
         (sym is_rest ∙ rest_same name rest is (tag ++ file.own) file.is))) file.is_own),
   )
 
-  pub of_tag_not : (tag : List ℕ) → ((own : List ℕ) → rest ≡ tag ++ own → ⊥) → Tells false (IsOfTag tag name)
+  pub of_tag_not : (tag : List ℕ) → ((own : List ℕ) → rest ≡ tag ++ own → ⊥) → Decides false (IsOfTag tag name)
   of_tag_not tag none = never (λ file. none file.own (rest_same name rest is (tag ++ file.own) file.is))
 
-pub left_without_tag : (tag name : List ℕ) (b : Bool) → length tag ≡ 0 → Tells b (IsOfRuns name) → Tells b (IsLeftBy tag name)
+pub left_without_tag : (tag name : List ℕ) (b : Bool) → length tag ≡ 0 → Decides b (IsOfRuns name) → Decides b (IsLeftBy tag name)
 left_without_tag [] name b none tells = tells
 left_without_tag (x ∷ tag) name b none tells = absurd (omega arith)
 
-pub left_with_tag : (tag name : List ℕ) (b : Bool) → 0 < length tag → Tells b (IsOfTag tag name) → Tells b (IsLeftBy tag name)
+pub left_with_tag : (tag name : List ℕ) (b : Bool) → 0 < length tag → Decides b (IsOfTag tag name) → Decides b (IsLeftBy tag name)
 left_with_tag [] name b some tells = absurd (omega arith)
 left_with_tag (x ∷ tag) name b some tells = tells
 
-pub runs_first : (name : List ℕ) (b : Bool) → Tells b (IsOfUnfinished name) → b ≡ true → Tells b (IsOfRuns name)
+pub runs_first : (name : List ℕ) (b : Bool) → Decides b (IsOfUnfinished name) → b ≡ true → Decides b (IsOfRuns name)
 runs_first name b tells so = (λ is. inl (tells.0 is), λ file. so)
 
 module _ (name rest before digits : List ℕ) (is : name ≡ codes ".rebuild-store-" ++ rest) (at : IsAroundLast 45 rest before digits) where
@@ -139,7 +139,7 @@ pub says_none : (name rest : List ℕ) → name ≡ codes ".rebuild-store-" ++ r
 says_none name rest is lack run says =
     not_both 45 rest says.text says.digits (rest_same name rest is (says.text ++ (45 ∷ says.digits)) says.is) lack
 
-pub runs_second : (name : List ℕ) (b c : Bool) → Tells b (IsOfUnfinished name) → b ≡ false → Tells c (IsLock name) → Tells c (IsOfRuns name)
+pub runs_second : (name : List ℕ) (b c : Bool) → Decides b (IsOfUnfinished name) → b ≡ false → Decides c (IsLock name) → Decides c (IsOfRuns name)
 runs_second name b c tells gone other = (λ is. inr (other.0 is), from) where
   from : IsOfRuns name → c ≡ true
   from (inl file) = absurd (both_ways b gone (tells.1 file))

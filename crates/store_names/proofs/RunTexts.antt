@@ -1,5 +1,5 @@
 -- What the texts of runs' names are made of has no `-` and no `@`, so that they can be cut in one way.
-use Rattle.std.proofs.Common.{◌≡◌, ◌∙◌, sym, ap, refl, subst, inl, inr, ◌⊎◌, ℕ, Bool, true, false, List, [], ◌∷◌, ◌++◌, append_assoc, not, ◌==◌}
+use Rattle.std.proofs.Common.{Decides, ◌≡◌, ◌∙◌, sym, ap, refl, subst, inl, inr, ◌⊎◌, ℕ, Bool, true, false, List, [], ◌∷◌, ◌++◌, append_assoc, not, ◌==◌}
 use Rattle.std.specs.List.{list_all}
 use Rattle.std.specs.Char.{is_ascii_digit}
 use Rattle.std.proofs.lemmas.Bool.{and_parts, both_ways, false≢true}
@@ -12,11 +12,7 @@ use Rattle.store_names.specs.RunFiles.IsRunIn.{alone, later}
 use Rattle.store_names.specs.RunFiles.IsTag.{of_part, of_run, of_both}
 use Rattle.store_names.proofs.Marks.{first_same, last_same, lacks_kind, lacks_append, not_both}
 
--- a test that is true where something is so, and false where it isn't
-abbrev pub Tells : Bool → Type 0 → Type 0
-Tells b P = (b ≡ true → P) × (P → b ≡ true)
-
-pub never : {P : Type 0} → (P → ⊥) → Tells false P
+pub never : {P : Type 0} → (P → ⊥) → Decides false P
 never none = (λ yes. absurd (false≢true yes), λ p. absurd (none p))
 
 -- ---- digits
@@ -39,7 +35,7 @@ module _ (between text index rest : List ℕ) (at : IsAroundFirst 45 text index 
   pub part_read : (p : IsPart between text) → (index ≡ p.index) × (rest ≡ between ++ p.of)
   part_read p = first_same 45 index p.index rest (between ++ p.of) at.first (number_lacks_dash p.index p.is_index) (sym at.is ∙ p.is)
 
-  pub part_yes : (of : List ℕ) (b : Bool) → rest ≡ between ++ of → is_number index ≡ true → b ≡ is_number of → Tells b (IsPart between text)
+  pub part_yes : (of : List ℕ) (b : Bool) → rest ≡ between ++ of → is_number index ≡ true → b ≡ is_number of → Decides b (IsPart between text)
   part_yes of b is number is_b = (
     λ yes. record {
       index = index;
@@ -51,10 +47,10 @@ module _ (between text index rest : List ℕ) (at : IsAroundFirst 45 text index 
     λ p. is_b ∙ ap is_number (append_cancel_left between of p.of (sym is ∙ (part_read p).1)) ∙ p.is_of,
   )
 
-  pub part_not_index : (b : Bool) → b ≡ is_number index → b ≡ false → Tells b (IsPart between text)
+  pub part_not_index : (b : Bool) → b ≡ is_number index → b ≡ false → Decides b (IsPart between text)
   part_not_index b is_b gone = (λ yes. absurd (both_ways b gone yes), λ p. is_b ∙ ap is_number (part_read p).0 ∙ p.is_index)
 
-  pub part_not_between : ((of : List ℕ) → rest ≡ between ++ of → ⊥) → Tells false (IsPart between text)
+  pub part_not_between : ((of : List ℕ) → rest ≡ between ++ of → ⊥) → Decides false (IsPart between text)
   part_not_between none = never (λ p. none p.of (part_read p).1)
 
 pub part_lacks_at : (text : List ℕ) → IsPart [] text → lacks 64 text ≡ true
@@ -71,10 +67,10 @@ module _ (text process host : List ℕ) (at : IsAroundFirst 64 text process host
   run_read r = first_same 64 process r.process host r.host at.first (number_lacks_at r.process r.is_process) (sym at.is ∙ r.is)
 
   pub run_yes : (is_host : List ℕ → Bool) → ((r : IsRun text) → is_host r.host ≡ true) → (b : Bool) → b ≡ is_host host
-      → ((is_host host ≡ true) → IsRun text) → Tells b (IsRun text)
+      → ((is_host host ≡ true) → IsRun text) → Decides b (IsRun text)
   run_yes is_host of b is_b made = (λ yes. made (sym is_b ∙ yes), λ r. is_b ∙ ap is_host (run_read r).1 ∙ of r)
 
-  pub run_not_process : (b : Bool) → b ≡ is_number process → b ≡ false → Tells b (IsRun text)
+  pub run_not_process : (b : Bool) → b ≡ is_number process → b ≡ false → Decides b (IsRun text)
   run_not_process b is_b gone = (λ yes. absurd (both_ways b gone yes), λ r. is_b ∙ ap is_number (run_read r).0 ∙ r.is_process)
 
 -- ---- where a run begins
@@ -154,13 +150,13 @@ module _ (text before run : List ℕ) (in_it : IsRunIn text before run) where
         (subst IsBeforeRun same.0 says.3, subst IsRun same.1 says.4)
   ]
 
-  pub tag_yes : (b : Bool) → IsBeforeRun before → Tells b (IsRun run) → Tells b (IsTag text)
+  pub tag_yes : (b : Bool) → IsBeforeRun before → Decides b (IsRun run) → Decides b (IsTag text)
   tag_yes b first tells = (λ yes. said text before run in_it first (tells.0 yes), λ tag. tells.1 (says_parts tag).1)
 
-  pub tag_not_before : (b : Bool) → Tells b (IsBeforeRun before) → b ≡ false → Tells b (IsTag text)
+  pub tag_not_before : (b : Bool) → Decides b (IsBeforeRun before) → b ≡ false → Decides b (IsTag text)
   tag_not_before b tells gone = (λ yes. absurd (both_ways b gone yes), λ tag. tells.1 (says_parts tag).0)
 
-pub tag_of_part : (text : List ℕ) (b : Bool) → lacks 64 text ≡ true → Tells b (IsPart [] text) → Tells b (IsTag text)
+pub tag_of_part : (text : List ℕ) (b : Bool) → lacks 64 text ≡ true → Decides b (IsPart [] text) → Decides b (IsTag text)
 tag_of_part text b lack tells = (
   λ yes. of_part (tells.0 yes),
   λ tag. elim (tag_says text tag) [ inl part ↦ tells.1 part | inr says ↦ absurd (run_in_has_at text says.0 says.1 says.2 lack) ],

@@ -1,4 +1,8 @@
 //! The folders of a store's fragments: one for each disk, where the pattern of names says so.
+ghost use Rattle.std.specs.Prelude.{◌↔◌, IfOk, IsTrue, OnOk, map, string_bytes};
+ghost use Rattle.std.specs.List.{Contains};
+ghost use Rattle.store_names.specs.Folders.{AreFolders, HasFragment, IsAdded};
+
 use crate::paths::folder_in;
 use crate::patterns::Pattern;
 use lrc_code::Code;
@@ -10,22 +14,33 @@ pub fn stripe_folders(
     pattern: &Pattern<'_>,
     code: Code,
     stripe: &str,
-) -> Result<Vec<String>, AllocError> {
+) -> Result<Vec<String>, AllocError>
+    ensures { IfOk result (λ folders. AreFolders pattern.now code stripe.now (map string_bytes folders.items)) }
+{
     let mut folders = Vec::new(alloc);
     for place in code.places() {
-        let Some(name) = pattern.name_of(alloc, code, stripe, *place)? else {
-            continue;
-        };
-        let folder = folder_in(name.as_str());
-        if !has(folders.as_slice(), folder) {
-            folders.push(String::from_str(alloc, folder)?)?;
+        if let Some(name) = pattern.name_of(alloc, code, stripe, *place)? {
+            add(alloc, &mut folders, folder_in(name.as_str()))?;
         }
     }
     Ok(folders)
 }
 
+/// Puts a folder behind some, unless it is among them.
+fn add(alloc: Global, folders: &mut Vec<String>, folder: &str) -> Result<(), AllocError>
+    ensures { OnOk result (IsAdded (map string_bytes folders.old.items) folder.now (map string_bytes folders.new.items)) }
+{
+    if has(folders.as_slice(), folder) {
+        return Ok(());
+    }
+    folders.push(String::from_str(alloc, folder)?)?;
+    Ok(())
+}
+
 /// Whether a folder is among some.
-fn has(folders: &[String], folder: &str) -> bool {
+fn has(folders: &[String], folder: &str) -> bool
+    ensures { IsTrue result ↔ Contains (map string_bytes folders.now) folder.now }
+{
     folders.iter().any(|other| other.as_str() == folder)
 }
 
@@ -55,7 +70,9 @@ pub fn is_folder_of(
     code: Code,
     stripe: &str,
     folder: &str,
-) -> Result<bool, AllocError> {
+) -> Result<bool, AllocError>
+    ensures { IfOk result (λ is. IsTrue is ↔ HasFragment pattern.now code stripe.now folder.now) }
+{
     let folders = stripe_folders(alloc, pattern, code, stripe)?;
     Ok(has(folders.as_slice(), folder))
 }
