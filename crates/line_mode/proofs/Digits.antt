@@ -1,10 +1,11 @@
 -- Steps of the loop over pairs of hexadecimal digits.
 use Rattle.std.proofs.Common.{◌^◌, Bool, eqb, get_or, subst, suc, zero, ◌≡◌, ◌∙◌, ℕ, ◌+◌, ◌*◌, ◌<◌, ◌≤◌, max, true, false, cond, List}
 use Rattle.std.proofs.Common.{length, take, drop, slice_index, slice_set, Option, Some, None, unwrap_or, Ok, Err, refl, sym, ap, arith, inl}
-use Rattle.std.proofs.Common.{inr, [], ◌∷◌, ◌++◌, ◌%◌}
-use Rattle.std.proofs.lemmas.List.{length-append, take-append-le, take_all, take_more_set}
+use Rattle.std.proofs.Common.{inr}
 use Rattle.std.specs.Prelude.{◌&&◌, nat_lt}
 use Rattle.std.specs.Result.{result_ok}
+use Rattle.std.proofs.lemmas.Nat.{le_or_l, le_or_r, or_lt}
+use Rattle.std.specs.Int.Bits.{bit_or}
 use Rattle.std.proofs.lemmas.Bool.{cases_lt, eqb-true}
 use Rattle.hex.specs.Hex.{decode_of, decode_pairs, digit_or_error, hex_digit_value, pair_value}
 use Rattle.hex.specs.declared.error.FromHexError.{FromHexError}
@@ -83,6 +84,31 @@ decoded-step text bytes i greatest high low v most fits room eh el value is h = 
               ]
         ]
 
+-- one pair more, where the bits of the values are gathered in place of the greatest of them
+pub decoded-seen : (text bytes : List ℕ) (i seen high low v : ℕ) → 2 * i + 1 < length text → i < length bytes
+    → high ≡ unwrap_or (hex_digit_value (slice_index text (2 * i))) 255
+    → low ≡ unwrap_or (hex_digit_value (slice_index text (2 * i + 1))) 255
+    → (high < 16 → low < 16 → v ≡ high * 16 + low)
+    → IsDecoded text bytes i seen → IsDecoded text (slice_set bytes i v) (i + 1) (bit_or seen (bit_or high low))
+decoded-seen text bytes i seen high low v fits room eh el value h = record { good = good; bad = bad }
+  where
+    next : IsDecoded text (slice_set bytes i v) (i + 1) (max (max seen high) low)
+    next = decoded-step text bytes i seen high low v (max (max seen high) low) fits room eh el value refl h
+
+    good : bit_or seen (bit_or high low) < 16 → decode_pairs 0 text ≡ prepend (take (i + 1) (slice_set bytes i v))
+        (decode_pairs (2 * (i + 1)) (drop (2 * (i + 1)) text))
+    good small = next.good (omega (arith, small, le_or_l seen (bit_or high low), le_or_r seen (bit_or high low), le_or_l high low, le_or_r high low))
+
+    small_or : max (max seen high) low < 16 → bit_or seen (bit_or high low) < 16
+    small_or small = or_lt 4 seen (bit_or high low) (omega (arith, small)) (or_lt 4 high low (omega (arith, small)) (omega (arith, small)))
+
+    bad : 16 ≤ bit_or seen (bit_or high low) → result_ok (decode_pairs 0 text) ≡ None
+    bad large =
+        elim (cases_lt (max (max seen high) low) 16) [
+          | inr above ↦ next.bad above
+          | inl small ↦ absurd (omega (arith, large, small_or small))
+        ]
+
 -- all pairs
 pub decoded-done : (text bytes : List ℕ) (i greatest : ℕ) → length bytes ≤ i → length text ≡ 2 * length bytes
     → IsDecoded text bytes i greatest
@@ -120,47 +146,3 @@ table_tells = refl
 
 pub table_is : (a : ℕ) → a < 2 ^ 8 → slice_index DIGIT_VALUES a ≡ unwrap_or (hex_digit_value a) 255
 table_is a h = eqb-true _ _ (below_at (λ a. eqb (get_or DIGIT_VALUES a 0) (unwrap_or (hex_digit_value a) 255)) 256 a table_tells h)
-
--- ---- one pair after the other, up to the first that isn't two digits
-
--- the first i pairs are decoded to these bytes
-pub record AreDecoded (text bytes : List ℕ) (i : ℕ) : Type 0 where
-  pub long : length bytes ≡ i
-  pub so_far : decode_pairs 0 text ≡ prepend bytes (decode_pairs (2 * i) (drop (2 * i) text))
-
-module _ (text bytes : List ℕ) (i high low : ℕ) (fits : 2 * i + 1 < length text)
-    (eh : high ≡ unwrap_or (hex_digit_value (slice_index text (2 * i))) 255)
-    (el : low ≡ unwrap_or (hex_digit_value (slice_index text (2 * i + 1))) 255)
-    (before : AreDecoded text bytes i) where
-  room : i < length (bytes ++ 0 ∷ [])
-  room = omega (arith, before.long, length-append bytes (0 ∷ []))
-
-  front : take i (bytes ++ 0 ∷ []) ≡ bytes
-  front = take-append-le i bytes (0 ∷ []) (omega (arith, before.long)) ∙ take_all i bytes (omega (arith, before.long))
-
-  next : IsDecoded text (slice_set (bytes ++ 0 ∷ []) i (high * 16 + low)) (i + 1) (max (max 0 high) low)
-  next = decoded-step text (bytes ++ 0 ∷ []) i 0 high low (high * 16 + low) (max (max 0 high) low) fits room eh el
-      (λ _ _. refl) refl record {
-        good = λ _. before.so_far ∙ ap (λ (f : List ℕ). prepend f (decode_pairs (2 * i) (drop (2 * i) text))) (sym front);
-        bad = λ large. absurd (omega (arith, large));
-      }
-
-  pub pair-decoded : high < 16 → low < 16 → AreDecoded text (bytes ++ (high * 16 + low) ∷ []) (i + 1)
-  pair-decoded small_high small_low = record {
-    long = omega (arith, before.long, length-append bytes ((high * 16 + low) ∷ []));
-    so_far = next.good (omega (arith, small_high, small_low))
-        ∙ ap (λ (f : List ℕ). prepend f (decode_pairs (2 * (i + 1)) (drop (2 * (i + 1)) text)))
-        (take_more_set (bytes ++ 0 ∷ []) i (high * 16 + low) room ∙ ap (λ (f : List ℕ). f ++ (high * 16 + low) ∷ []) front);
-  }
-
-  pub pair-stops : length text % 2 ≡ 0 → 16 ≤ max high low → result_ok (decode_of text) ≡ None
-  pair-stops even large = ap result_ok (decode_of-even text even) ∙ next.bad (omega (arith, large))
-
--- all pairs
-pub are_decoded-done : (text bytes : List ℕ) (i : ℕ) → length text % 2 ≡ 0 → length text ≤ 2 * i → AreDecoded text bytes i
-    → result_ok (decode_of text) ≡ Some bytes
-are_decoded-done text bytes i even end h =
-    ap result_ok (decode_of-even text even)
-    ∙ ap result_ok (decode_done text bytes i (omega (arith, h.long)) end
-    (h.so_far ∙ ap (λ (f : List ℕ). prepend f (decode_pairs (2 * i) (drop (2 * i) text)))
-    (sym (take_all i bytes (omega (arith, h.long))))))

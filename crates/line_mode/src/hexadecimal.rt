@@ -4,7 +4,7 @@ ghost use Rattle.std.specs.Option.{option_map};
 ghost use Rattle.std.specs.Result.{result_ok};
 ghost use Rattle.hex.specs.Hex.{decode_of, encode_upper, hex_digit_value, upper_digits};
 
-use std::alloc::{AllocError, Global};
+use std::alloc::AllocError;
 
 /// What no digit is worth.
 const NO_DIGIT: u8 = 255;
@@ -30,19 +30,20 @@ static DIGIT_VALUES: [u8; 256] = [
     255, 255, 255,
 ];
 
-/// The bytes that pairs of digits write, in either case; none where the text is anything else.
-pub(crate) fn decode(alloc: Global, text: &[u8]) -> Result<Option<Vec<u8>>, AllocError>
+/// The bytes that pairs of digits write, in either case; none where the text is anything else. They are put into the memory of `room`,
+/// whatever that holds.
+pub(crate) fn decode(mut room: Vec<u8>, text: &[u8]) -> Result<Option<Vec<u8>>, AllocError>
     ensures { IfOk result (λ bytes. option_map (λ v. v.items) bytes ≡ result_ok (decode_of text.now)) }
 {
     if text.len() % 2 != 0 {
         return Ok(None);
     }
     if text.len() < FEW_DIGITS {
-        return decode_few(alloc, text);
+        return decode_few(room, text);
     }
-    let mut bytes = Vec::from_elem(alloc, 0u8, text.len() / 2)?;
-    if decode_into(text, bytes.as_mut_slice()) {
-        Ok(Some(bytes))
+    room.resize(text.len() / 2, 0)?;
+    if decode_into(text, room.as_mut_slice()) {
+        Ok(Some(room))
     } else {
         Ok(None)
     }
@@ -64,21 +65,34 @@ fn decode_into(text: &[u8], bytes: &mut [u8]) -> bool
     greatest < 16
 }
 
-/// The bytes of few digits, one pair after the other, up to the first that isn't two digits.
-fn decode_few(alloc: Global, text: &[u8]) -> Result<Option<Vec<u8>>, AllocError>
+/// The bytes of few digits, as `decode`.
+fn decode_few(mut room: Vec<u8>, text: &[u8]) -> Result<Option<Vec<u8>>, AllocError>
     requires { length text.now % 2 ≡ 0 }
     ensures { IfOk result (λ bytes. option_map (λ v. v.items) bytes ≡ result_ok (decode_of text.now)) }
 {
-    let mut bytes = Vec::with_capacity(alloc, text.len() / 2)?;
-    'pairs: for i in 0..text.len() / 2 {
+    room.resize(text.len() / 2, 0)?;
+    if decode_few_into(text, room.as_mut_slice()) {
+        Ok(Some(room))
+    } else {
+        Ok(None)
+    }
+}
+
+/// Writes the bytes that few pairs of digits write, each digit by the table, and says whether all are digits. The loop gathers bits that no
+/// digit has, since the greatest value would be taken by a branch.
+fn decode_few_into(text: &[u8], bytes: &mut [u8]) -> bool
+    requires { length text.now ≡ 2 * length bytes.old }
+    ensures len { length bytes.new ≡ length bytes.old }
+    ensures value { result_ok (decode_of text.now) ≡ (if result then Some bytes.new else None) }
+{
+    let mut seen = 0u8;
+    'pairs: for i in 0..bytes.len() {
         let high = table_value(text[2 * i]);
         let low = table_value(text[2 * i + 1]);
-        if high >= 16 || low >= 16 {
-            return Ok(None);
-        }
-        bytes.push(high * 16 + low)?;
+        bytes[i] = high.wrapping_mul(16).wrapping_add(low);
+        seen |= high | low;
     }
-    Ok(Some(bytes))
+    seen < 16
 }
 
 /// What a digit is worth, by the table.

@@ -16,6 +16,7 @@ mod input;
 pub mod laws;
 mod line;
 mod lines;
+mod memory;
 mod outcomes;
 mod parsing;
 mod pieces;

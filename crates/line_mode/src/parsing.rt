@@ -11,6 +11,7 @@ ghost use Rattle.line_mode.specs.Parts.{asked_of};
 ghost use Rattle.line_mode.specs.LineReply.{refusal_of};
 
 use crate::hexadecimal::decode;
+use crate::memory::KeptMemory;
 use crate::refusals::LineRefusal;
 use crate::scanning::{are_printable, find_near_byte};
 use crate::words::LineWords;
@@ -18,19 +19,17 @@ use lrc_code::text::parse_number;
 use lrc_code::{Code, Fragment, Place, Request};
 use std::alloc::{AllocError, Global};
 
-/// How many survivors a request has at most; with room for them their list needn't grow.
-const MOST_SURVIVORS: usize = 15;
-
-/// The request that a line writes, or why the line is refused.
+/// The request that a line writes, or why the line is refused. Its survivors are read into the memory that was kept.
 pub(crate) fn parse_line(
     alloc: Global,
+    memory: &mut KeptMemory,
     line: &[u8],
 ) -> Result<Result<Request, LineRefusal>, AllocError>
     ensures { IfOk result (λ asked. MatchResult asked
         (λ request. (request_of line.now ≡ Some request) × (refusal request ≡ None))
         (λ e. refusal_of line.now ≡ Some e)) }
 {
-    let Some(parts) = parse_parts(alloc, line)? else {
+    let Some(parts) = parse_parts(alloc, memory, line)? else {
         return Ok(Err(LineRefusal::BadLine));
     };
     let Parts {
@@ -57,7 +56,11 @@ struct Parts {
 }
 
 /// The parts of the request that a line writes, where the line has the form of one.
-fn parse_parts(alloc: Global, line: &[u8]) -> Result<Option<Parts>, AllocError>
+fn parse_parts(
+    alloc: Global,
+    memory: &mut KeptMemory,
+    line: &[u8],
+) -> Result<Option<Parts>, AllocError>
     ensures { IfOk result (λ parts. option_map asked_of parts ≡ request_of line.now) }
 {
     if !are_printable(line) {
@@ -68,12 +71,12 @@ fn parse_parts(alloc: Global, line: &[u8]) -> Result<Option<Parts>, AllocError>
         return Ok(None);
     };
     let parts = match parse_line_code(first) {
-        None => parse_request(alloc, Code::UNNAMED, first, words)?,
+        None => parse_request(alloc, memory, Code::UNNAMED, first, words)?,
         Some(code) => {
             let Some(stripe) = words.next() else {
                 return Ok(None);
             };
-            parse_request(alloc, code, stripe, words)?
+            parse_request(alloc, memory, code, stripe, words)?
         }
     };
     Ok(parts)
@@ -92,6 +95,7 @@ fn parse_line_code(word: &[u8]) -> Option<Code>
 /// The parts of the request over a code that a stripe's name and the words after it write.
 fn parse_request(
     alloc: Global,
+    memory: &mut KeptMemory,
     code: Code,
     stripe: &[u8],
     mut words: LineWords<'_>,
@@ -105,7 +109,7 @@ fn parse_request(
     let (Some(target), Some(length)) = (code.named(target), parse_number(length)) else {
         return Ok(None);
     };
-    let Some(survivors) = parse_survivors(alloc, code, words)? else {
+    let Some(survivors) = parse_survivors(alloc, memory, code, words)? else {
         return Ok(None);
     };
     let stripe = copy_text(alloc, stripe)?;
@@ -129,15 +133,16 @@ fn copy_text(alloc: Global, text: &[u8]) -> Result<String, AllocError>
 /// The surviving fragments that words write, where each writes one.
 fn parse_survivors(
     alloc: Global,
+    memory: &mut KeptMemory,
     code: Code,
     words: LineWords<'_>,
 ) -> Result<Option<Vec<Fragment>>, AllocError>
     ensures { IfOk result (λ fragments. option_map (λ fs. survivors_of fs.items) fragments
         ≡ every (map (survivor code) (line_words words.entry.rest.now))) }
 {
-    let mut survivors = Vec::with_capacity(alloc, MOST_SURVIVORS)?;
+    let mut survivors = memory.take_list(alloc)?;
     for word in words {
-        let Some(fragment) = parse_survivor(alloc, code, word)? else {
+        let Some(fragment) = parse_survivor(memory.take_room(alloc), code, word)? else {
             return Ok(None);
         };
         survivors.push(fragment)?;
@@ -145,8 +150,8 @@ fn parse_survivors(
     Ok(Some(survivors))
 }
 
-/// The surviving fragment that a word writes, as in `x1=0F`.
-fn parse_survivor(alloc: Global, code: Code, word: &[u8]) -> Result<Option<Fragment>, AllocError>
+/// The surviving fragment that a word writes, as in `x1=0F`, whose bytes are put into the memory of `room`.
+fn parse_survivor(room: Vec<u8>, code: Code, word: &[u8]) -> Result<Option<Fragment>, AllocError>
     ensures { IfOk result (λ fragment. option_map survivor_of fragment ≡ survivor code word.now) }
 {
     let Some(at) = find_near_byte(word, b'=') else {
@@ -155,6 +160,6 @@ fn parse_survivor(alloc: Global, code: Code, word: &[u8]) -> Result<Option<Fragm
     let Some(place) = code.named(&word[..at]) else {
         return Ok(None);
     };
-    let bytes = decode(alloc, &word[at + 1..])?;
+    let bytes = decode(room, &word[at + 1..])?;
     Ok(bytes.map(|bytes| Fragment { place, bytes }))
 }

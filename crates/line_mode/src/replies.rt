@@ -8,6 +8,7 @@ ghost use Rattle.line_mode.specs.LineReply.{IsReply, LineReply, fault_number, re
 
 use crate::hexadecimal::append_upper;
 use crate::lines::Lines;
+use crate::memory::KeptMemory;
 use crate::outcomes::LineCount;
 use crate::parsing::parse_line;
 use crate::refusals::LineRefusal;
@@ -76,9 +77,10 @@ pub(crate) fn reply_to_lines(alloc: Global, input: &[u8]) -> Result<Replies, All
 {
     let mut replies = Replies::new(alloc);
     let mut plans = RememberedPlans::new(alloc);
+    let mut memory = KeptMemory::new(alloc);
     for line in Lines::new(input) {
         if !is_blank(line) {
-            replies.add(alloc, &reply_to_line(alloc, &mut plans, line)?)?;
+            replies.add(alloc, &reply_to_line(alloc, &mut plans, &mut memory, line)?)?;
         }
     }
     Ok(replies)
@@ -91,16 +93,21 @@ fn is_blank(line: &[u8]) -> bool
     line.iter().all(|b| *b == b' ')
 }
 
-/// The reply to a line that isn't blank.
+/// The reply to a line that isn't blank. The memory of a request that was answered is kept for a later line's.
 fn reply_to_line(
     alloc: Global,
     plans: &mut RememberedPlans,
+    memory: &mut KeptMemory,
     line: &[u8],
 ) -> Result<LineReply, AllocError>
     ensures { IfOk result (IsReply line.now) }
 {
-    match parse_line(alloc, line)? {
-        Ok(request) => Ok(Ok(plans.solve(alloc, &request)?)),
+    match parse_line(alloc, memory, line)? {
+        Ok(request) => {
+            let outcome = plans.solve(alloc, &request)?;
+            memory.keep(request)?;
+            Ok(Ok(outcome))
+        }
         Err(refusal) => Ok(Err(refusal)),
     }
 }
