@@ -1,4 +1,9 @@
 //! The copies of the description of a stripe's file: which of them is believed, and why one isn't as it should be.
+ghost use Rattle.std.specs.Prelude.{◌≡◌, MatchOption, option_copied};
+ghost use Rattle.store_records.specs.declared.descriptions.Described.{Described};
+ghost use Rattle.store_faults.specs.Copies.{IsBelieved, IsSaidByMost, IsSaidWith, agreeing, is_of_device, is_readable};
+ghost use Rattle.store_faults.specs.Copies.{may_be_replaced, readable, reason_of, same, says};
+
 use crate::system_words::without_number;
 use lrc_code::Code;
 use std::alloc::{AllocError, Global};
@@ -65,7 +70,9 @@ pub enum CopyReason {
 
 impl CopyReason {
     /// Whether the system refused to read or write something.
-    pub fn is_of_device(&self) -> bool {
+    pub fn is_of_device(&self) -> bool
+        ensures { result ≡ is_of_device self.now }
+    {
         matches!(self, CopyReason::Unread(_) | CopyReason::Unwritten(_))
     }
 }
@@ -102,37 +109,67 @@ pub struct Descriptions {
 impl Copies {
     /// What is believed of the file: what a copy says that has the digest of the sums, or, where these say none, what more than half of the
     /// copies say.
-    pub fn believed(&self) -> Option<Described> {
-        let mut count = 0usize;
-        for copy in &self.all {
-            if let CopyState::There(..) = copy.state {
-                count = count.saturating_add(1);
-            }
+    pub fn believed(&self) -> Option<Described>
+        ensures { MatchOption result ((described : Described) → ¬ IsBelieved self.now described)
+            (λ described. IsBelieved self.now described) }
+    {
+        match &self.listed {
+            Some(digest) => self.said_with(digest),
+            None => self.said_by_most(),
         }
+    }
+
+    /// What a copy says that has this digest.
+    fn said_with(&self, digest: &Digest) -> Option<Described>
+        ensures { MatchOption result ((described : Described) → ¬ IsSaidWith self.now digest.now described)
+            (λ described. IsSaidWith self.now digest.now described) }
+    {
         for copy in &self.all {
-            let CopyState::There(described, digest) = copy.state else {
+            let CopyState::There(described, other) = copy.state else {
                 continue;
             };
-            let is_believed = match &self.listed {
-                Some(listed) => digest == *listed,
-                None => self.agreeing(&described) > count / 2,
-            };
-            if is_believed {
+            if other == *digest {
                 return Some(described);
             }
         }
         None
     }
 
-    /// How many copies say the same.
-    fn agreeing(&self, described: &Described) -> usize {
-        let says = |copy: &FoundCopy| {
-            match &copy.state {
-                CopyState::There(other, _) => *other == *described,
-                _ => false,
+    /// What more than half of the copies say that can be read.
+    fn said_by_most(&self) -> Option<Described>
+        ensures { MatchOption result ((described : Described) → ¬ IsSaidByMost self.now described)
+            (λ described. IsSaidByMost self.now described) }
+    {
+        let readable = self.readable();
+        for copy in &self.all {
+            let CopyState::There(described, _) = copy.state else {
+                continue;
+            };
+            if self.agreeing(&described) > readable / 2 {
+                return Some(described);
             }
-        };
-        self.all.iter().filter(|copy| says(copy)).count()
+        }
+        None
+    }
+
+    /// How many copies can be read and are descriptions.
+    fn readable(&self) -> usize
+        ensures { result ≡ readable self.now }
+    {
+        self.all
+            .iter()
+            .filter(|copy| copy.state.is_readable())
+            .count()
+    }
+
+    /// How many copies say the same.
+    fn agreeing(&self, described: &Described) -> usize
+        ensures { result ≡ agreeing self.now described.now }
+    {
+        self.all
+            .iter()
+            .filter(|copy| copy.state.says(described))
+            .count()
     }
 
     /// What isn't as it should be of the stripe.
@@ -163,8 +200,28 @@ impl Copies {
 }
 
 impl CopyState {
+    /// Whether it can be read and is a description.
+    fn is_readable(&self) -> bool
+        ensures { result ≡ is_readable self.now }
+    {
+        matches!(self, CopyState::There(..))
+    }
+
+    /// Whether it says this of the file.
+    fn says(&self, described: &Described) -> bool
+        ensures { result ≡ says self.now described.now }
+    {
+        match self {
+            CopyState::There(other, _) => is_same(other, described),
+            CopyState::Absent | CopyState::Odd { .. } | CopyState::NoFile | CopyState::Unread(_) =>
+                false,
+        }
+    }
+
     /// Whether what is there may be replaced: a file that could be read, and that isn't longer than a description.
-    pub fn may_be_replaced(&self) -> bool {
+    pub fn may_be_replaced(&self) -> bool
+        ensures { result ≡ may_be_replaced self.now }
+    {
         match self {
             CopyState::There(..) => true,
             CopyState::Odd { length } => *length <= MOST_BYTES,
@@ -173,18 +230,27 @@ impl CopyState {
     }
 
     /// Why a copy isn't as it should be, by what is believed of the file.
-    pub fn reason(self, believed: Option<&Described>, has_sums: bool) -> Option<CopyReason> {
+    pub fn reason(self, believed: Option<&Described>, has_sums: bool) -> Option<CopyReason>
+        ensures { result ≡ reason_of self (option_copied believed.entry) has_sums }
+    {
         match self {
             CopyState::Absent => Some(CopyReason::Lost),
             CopyState::Odd { .. } => Some(CopyReason::Odd),
             CopyState::NoFile => Some(CopyReason::NoFile),
             CopyState::Unread(error) => Some(CopyReason::Unread(error)),
             CopyState::There(described, _) => match believed {
-                Some(other) if *other == described => None,
+                Some(other) if is_same(other, &described) => None,
                 _ if has_sums => Some(CopyReason::DiffersFromSums),
                 Some(_) => Some(CopyReason::Differs),
                 None => None,
             },
         }
     }
+}
+
+/// Whether two descriptions say the same.
+fn is_same(one: &Described, other: &Described) -> bool
+    ensures { result ≡ same one.now other.now }
+{
+    *one == *other
 }
