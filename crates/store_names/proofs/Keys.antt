@@ -81,7 +81,7 @@ key_looks naming layout code p key of_p =
 
 -- ---- ends and beginnings of one length
 
-ends_same : (xs ys a b : List ℕ) → length a ≡ length b → xs ++ a ≡ ys ++ b → a ≡ b
+pub ends_same : (xs ys a b : List ℕ) → length a ≡ length b → xs ++ a ≡ ys ++ b → a ≡ b
 ends_same xs ys a b long is =
     let one : length xs ≡ length ys = omega (arith, length-append xs a, length-append ys b, ap length is) in
     sym (drop-append_seam xs a) ∙ ap (drop (length xs)) is ∙ ap (λ n. drop n (ys ++ b)) one ∙ drop-append_seam ys b

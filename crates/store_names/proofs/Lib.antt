@@ -1,4 +1,5 @@
 pub mod AllPlaces
+pub mod Described
 pub mod Distinct
 pub mod Folders
 pub mod Free

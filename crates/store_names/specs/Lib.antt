@@ -1,3 +1,4 @@
+pub mod Descriptions
 pub mod Folders
 pub mod Laws
 pub mod Layouts
