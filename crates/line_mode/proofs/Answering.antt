@@ -33,7 +33,8 @@ completes-more all left rest line replies reply is solid answers whole more answ
 -- what is held are the replies to the lines of an input but those of the text left
 abbrev pub Progress : List ℕ → List ℕ → Replies → Type 0
 Progress input left r =
-    (replies : List LineReply) × Completes (lines input) replies (lines left) × Holds r replies × (length replies + length left ≤ length input)
+    (replies : List LineReply) × Completes (lines input) replies (lines left) × Holds r replies
+    × (length replies + length left ≤ length input)
 
 -- one more reply is held
 pub one_more : (input left rest line : List ℕ) (reply : LineReply) (old new : Replies)

@@ -97,7 +97,14 @@ decoded-seen text bytes i seen high low v fits room eh el value h = record { goo
 
     good : bit_or seen (bit_or high low) < 16 → decode_pairs 0 text ≡ prepend (take (i + 1) (slice_set bytes i v))
         (decode_pairs (2 * (i + 1)) (drop (2 * (i + 1)) text))
-    good small = next.good (omega (arith, small, le_or_l seen (bit_or high low), le_or_r seen (bit_or high low), le_or_l high low, le_or_r high low))
+    good small = next.good (omega (
+      arith,
+      small,
+      le_or_l seen (bit_or high low),
+      le_or_r seen (bit_or high low),
+      le_or_l high low,
+      le_or_r high low,
+    ))
 
     small_or : max (max seen high) low < 16 → bit_or seen (bit_or high low) < 16
     small_or small = or_lt 4 seen (bit_or high low) (omega (arith, small)) (or_lt 4 high low (omega (arith, small)) (omega (arith, small)))

@@ -78,8 +78,8 @@ fn decode_few(mut room: Vec<u8>, text: &[u8]) -> Result<Option<Vec<u8>>, AllocEr
     }
 }
 
-/// Writes the bytes that few pairs of digits write, each digit by the table, and says whether all are digits. The loop gathers bits that no
-/// digit has, since the greatest value would be taken by a branch.
+/// Writes the bytes that few pairs of digits write, each digit by the table, and says whether all are digits. The loop gathers the bits
+/// of all values, since keeping the greatest of them took a branch for each digit.
 fn decode_few_into(text: &[u8], bytes: &mut [u8]) -> bool
     requires { length text.now ≡ 2 * length bytes.old }
     ensures len { length bytes.new ≡ length bytes.old }

@@ -17,7 +17,7 @@ pub(crate) struct KeptMemory {
 }
 
 impl KeptMemory {
-    /// None yet.
+    /// No memory yet, and it takes none.
     pub(crate) fn new(alloc: Global) -> KeptMemory {
         KeptMemory {
             list: Vec::new(alloc),
@@ -43,8 +43,8 @@ impl KeptMemory {
         }
     }
 
-    /// Keeps the memory of a request's survivors. At most as many vectors are kept as a request had survivors, since those that it was read
-    /// into were taken before.
+    /// Keeps the memory of a request's survivors. There are never more vectors than one of the requests had survivors, of which an accepted
+    /// one has 15 at most, since each request took its own from them.
     pub(crate) fn keep(&mut self, request: Request) -> Result<(), AllocError> {
         let mut list = request.into_survivors();
         while let Some(fragment) = list.pop() {

@@ -17,19 +17,19 @@ pub loop-line-preserved-in_ok-add : goal.loop-line-preserved-in_ok-add
 loop-line-preserved-in_ok-add c =
     one_more c.args.input.now c.loop-line.line-iterator.rest.now c.next.new.self.rest.now c.in-Some.line.now
     c.in_ok-reply_to_line.field-0 c.loop-line.replies c.add.new.self
-    c.in-Some.ensures.steps (search rules) (sym c.is_blank.ensures ∙ c.if-not-is_blank.true) c.in_ok-reply_to_line.ensures c.in_ok-add.ensures
-    c.loop-line.invariant
+    c.in-Some.ensures.steps (search rules) (sym c.is_blank.ensures ∙ c.if-not-is_blank.true)
+    c.in_ok-reply_to_line.ensures c.in_ok-add.ensures c.loop-line.invariant
 
 pub loop-line-preserved-in_ok-add-2 : goal.loop-line-preserved-in_ok-add-2
 loop-line-preserved-in_ok-add-2 c =
     one_more c.args.input.now c.loop-line.line-iterator.rest.now c.next.new.self.rest.now c.in-Some.line.now
     c.in_ok-reply_to_line.field-0 c.loop-line.replies c.add.new.self
-    c.in-Some.ensures.steps (search rules) (sym c.is_blank.ensures ∙ c.if-not-is_blank.true) c.in_ok-reply_to_line.ensures c.in_ok-add.ensures
-    c.loop-line.invariant
+    c.in-Some.ensures.steps (search rules) (sym c.is_blank.ensures ∙ c.if-not-is_blank.true)
+    c.in_ok-reply_to_line.ensures c.in_ok-add.ensures c.loop-line.invariant
 
 pub loop-line-preserved-in_ok-add-3 : goal.loop-line-preserved-in_ok-add-3
 loop-line-preserved-in_ok-add-3 c =
     one_more c.args.input.now c.loop-line.line-iterator.rest.now c.next.new.self.rest.now c.in-Some.line.now
     c.in_ok-reply_to_line.field-0 c.loop-line.replies c.add.new.self
-    c.in-Some.ensures.steps (search rules) (sym c.is_blank.ensures ∙ c.if-not-is_blank.true) c.in_ok-reply_to_line.ensures c.in_ok-add.ensures
-    c.loop-line.invariant
+    c.in-Some.ensures.steps (search rules) (sym c.is_blank.ensures ∙ c.if-not-is_blank.true)
+    c.in_ok-reply_to_line.ensures c.in_ok-add.ensures c.loop-line.invariant
