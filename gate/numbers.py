@@ -95,7 +95,7 @@ def limits():
             f"| records in a list; bytes of a list | {records:,}; {list_bytes:,} |",
             f"| bytes of a fragment | of a list 1 to {length:,}, else any length |",
             f"| bytes of line mode's input | {lines:,} |",
-            f"| 1 to {workers} (4 if not given), 1 to {queue:,} (16) |",
+            f"| 1 to {workers} (4 if not given), 1 to {queue:,} (16; more for short fragments) |",
             f"Fragments then have at most {length:,} bytes, and stripes' names 1 to {name} characters",
             f"two batches of {batch // 2**20} MiB",
         ],
