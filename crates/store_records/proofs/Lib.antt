@@ -1,2 +1,3 @@
 pub mod OneName
+pub mod ReadBack
 pub mod Unescaped

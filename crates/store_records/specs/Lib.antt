@@ -1,4 +1,5 @@
 pub mod Descriptions
+pub mod Laws
 pub mod ReadLines
 pub mod SumLines
 pub mod Sums

@@ -17,11 +17,14 @@ escaped_byte byte =
 abbrev pub escaped : List ℕ → List ℕ
 escaped name = flat_map escaped_byte name
 
--- the line of a file, by its name and its digest: a backslash if something of the name is escaped, the digest in hexadecimal digits,
--- two spaces, the escaped name and a line feed
+-- the line of a file, by its name and its digest, without its line feed: a backslash if something of the name is escaped, the digest in
+-- hexadecimal digits, two spaces and the escaped name
+abbrev pub sum_text : List ℕ → List ℕ → List ℕ
+sum_text name digest = (if list_any is_escaped name then codes "\\" else []) ++ encode_lower digest ++ codes "  " ++ escaped name
+
+-- the line of a file with its line feed
 abbrev pub sum_line : List ℕ → List ℕ → List ℕ
-sum_line name digest =
-    (if list_any is_escaped name then codes "\\" else []) ++ encode_lower digest ++ codes "  " ++ escaped name ++ codes "\n"
+sum_line name digest = sum_text name digest ++ codes "\n"
 
 -- the lines of all files that the sums name, in the order of the names
 abbrev pub sum_lines : Sums → List ℕ

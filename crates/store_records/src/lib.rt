@@ -4,9 +4,11 @@
 mod descriptions;
 mod digits;
 mod faults;
+mod sum_laws;
 mod sums;
 
 pub use descriptions::{Described, MOST_BYTES};
 pub use digits::{Digest, digits_of};
 pub use faults::SumsFault;
+pub use sum_laws::lines_read_back;
 pub use sums::{LineFault, Sums};

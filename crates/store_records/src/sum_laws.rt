@@ -1,0 +1,8 @@
+//! What holds of the lines of sums, of whichever names and digests: a call that does nothing, for its contract.
+ghost use Rattle.store_records.specs.Laws.{LinesReadBack};
+
+/// What is written of a file is read as the same: its name, however many of its bytes are escaped, and its digest. An empty name can't be
+/// read, and of a name that begins with `./` this is left out.
+pub fn lines_read_back()
+    ensures { LinesReadBack }
+{}
