@@ -1,18 +1,19 @@
 -- A line that is written of a name and a digest says these.
 use Rattle.std.proofs.Common.{◌≡◌, ◌∙◌, sym, ap, refl, subst, arith, inl, inr, ◌⊎◌, ℕ, ◌-◌, ◌/◌, ◌%◌, ◌<◌, ◌==◌}
-use Rattle.std.proofs.Common.{Bool, true, false, not, ◌&&◌, ◌||◌, List, [], ◌∷◌, ◌++◌, Option, Some, None, take, drop, length, codes}
+use Rattle.std.proofs.Common.{suc, Bool, true, false, not, ◌&&◌, ◌||◌, List, [], ◌∷◌, ◌++◌, Option, Some, None, take, drop, length, codes}
 use Rattle.std.proofs.Common.{append_assoc, length-append}
 use Rattle.std.specs.Prelude.{if◌then◌else◌, nat_le, nat_lt, option_map, option_and_then, slice_index}
 use Rattle.std.specs.Cmp.Lexicographic.{pointwise}
-use Rattle.std.specs.List.{ends_with, list_any, starts_with}
+use Rattle.std.specs.List.{ends_with, list_all, list_any, starts_with}
 use Rattle.std.specs.Result.{result_ok}
 use Rattle.std.proofs.Math.Dec.{eqb}
 use Rattle.std.proofs.Math.Seq.{drop-append_seam, take-append_seam}
 use Rattle.std.proofs.lemmas.Bool.{and_parts, cases_Bool, eq-eqb, eqb-true, lt-leb, ne_eqb, not-true, or_parts}
+use Rattle.std.proofs.lemmas.List.Folds.{list_all-append}
 use Rattle.hex.specs.Hex.{IsBytes, encode_lower, encode_with, hex_digit_value, lower_digits}
 use Rattle.hex.proofs.HexLemmas.{IsDigits-lower_digits, decode_pairs-encode_with, length-encode_with}
 use Rattle.hex.proofs.Pairs.{decode_sized-pairs}
-use Rattle.store_records.specs.Laws.{LinesReadBack}
+use Rattle.store_records.specs.Laws.{LinesAreWhole, LinesReadBack}
 use Rattle.store_records.specs.ReadLines.{digest_of, is_separator, said_after, said_by, said_in, says_nothing, stands_for}
 use Rattle.store_records.specs.ReadLines.{unescaped, unescaped_after, without_dot, without_return}
 use Rattle.store_records.specs.SumLines.{escaped, escaped_byte, is_escaped, sum_text}
@@ -24,6 +25,7 @@ record IsPlain (x : ℕ) : Type 0 where
   written : escaped_byte x ≡ x ∷ []
   no_backslash : (x == 92) ≡ false
   no_return : (13 == x) ≡ false
+  no_feed : (x == 10) ≡ false
 
 -- a byte that is written as a backslash and another
 record IsOther (x : ℕ) : Type 0 where
@@ -31,6 +33,7 @@ record IsOther (x : ℕ) : Type 0 where
   written : escaped_byte x ≡ 92 ∷ second ∷ []
   meant : stands_for second ≡ Some x
   no_return : (13 == second) ≡ false
+  no_feed : (second == 10) ≡ false
 
 turned : (x n : ℕ) → (x == n) ≡ false → (n == x) ≡ false
 turned x n differ = elim (cases_Bool (n == x)) as (λ _. (n == x) ≡ false) [
@@ -38,14 +41,19 @@ turned x n differ = elim (cases_Bool (n == x)) as (λ _. (n == x) ≡ false) [
   | inr other ↦ other
 ]
 
+other : {x : ℕ} (second : ℕ) → escaped_byte x ≡ 92 ∷ second ∷ [] → stands_for second ≡ Some x → (13 == second) ≡ false
+    → (second == 10) ≡ false → IsOther x
+other second written meant no_return no_feed =
+    record { second = second; written = written; meant = meant; no_return = no_return; no_feed = no_feed }
+
 of_byte : (x : ℕ) → IsPlain x ⊎ IsOther x
 of_byte x = elim (cases_Bool (x == 92)) [
-  | inl is ↦ inr (subst IsOther (sym (eqb-true x 92 is)) (record { second = 92; written = refl; meant = refl; no_return = refl }))
+  | inl is ↦ inr (subst IsOther (sym (eqb-true x 92 is)) (other 92 refl refl refl refl))
   | inr one ↦ elim (cases_Bool (x == 10)) [
-    | inl is ↦ inr (subst IsOther (sym (eqb-true x 10 is)) (record { second = 110; written = refl; meant = refl; no_return = refl }))
+    | inl is ↦ inr (subst IsOther (sym (eqb-true x 10 is)) (other 110 refl refl refl refl))
     | inr two ↦ elim (cases_Bool (x == 13)) [
-      | inl is ↦ inr (subst IsOther (sym (eqb-true x 13 is)) (record { second = 114; written = refl; meant = refl; no_return = refl }))
-      | inr three ↦ inl (record { written = rw (one, two, three) refl; no_backslash = one; no_return = turned x 13 three })
+      | inl is ↦ inr (subst IsOther (sym (eqb-true x 13 is)) (other 114 refl refl refl refl))
+      | inr three ↦ inl (record { written = rw (one, two, three) refl; no_backslash = one; no_return = turned x 13 three; no_feed = two })
     ]
   ]
 ]
@@ -270,3 +278,49 @@ read_back [] digest sayable long bytes = cc
 read_back (x ∷ others) digest sayable long bytes =
     let parts = and_parts (nat_lt 0 (length (x ∷ others))) (not (starts_with eqb (x ∷ others) (codes "./"))) sayable in
     of_each x others digest (not-true _ parts.1) long bytes
+
+-- ---- no line feed is in a line
+
+abbrev no_feeds : List ℕ → Bool
+no_feeds text = list_all (λ byte. not (byte == 10)) text
+
+and_true : (a b : Bool) → a ≡ true → b ≡ true → (a && b) ≡ true
+and_true a b is also = rw (is, also) refl
+
+joins : (xs ys : List ℕ) → no_feeds xs ≡ true → no_feeds ys ≡ true → no_feeds (xs ++ ys) ≡ true
+joins xs ys first second = list_all-append (λ byte. not (byte == 10)) xs ys ∙ and_true _ _ first second
+
+byte_whole : (x : ℕ) → no_feeds (escaped_byte x) ≡ true
+byte_whole x = elim (of_byte x) [
+  | inl plain ↦ rw (plain.written, plain.no_feed) refl
+  | inr two ↦ rw (two.written, two.no_feed) refl
+]
+
+name_whole : (name : List ℕ) → no_feeds (escaped name) ≡ true
+name_whole [] = refl
+name_whole (x ∷ name) = joins (escaped_byte x) (escaped name) (byte_whole x) (name_whole name)
+
+digits_whole : (digest : List ℕ) → IsBytes digest → no_feeds (encode_lower digest) ≡ true
+unfolding encode_with
+digits_whole [] bytes = refl
+digits_whole (d ∷ digest) bytes =
+    let fits : d < 256 = bytes 0 in
+    let high : d / 16 < 16 = omega arith in
+    let low : d % 16 < 16 = omega arith in
+    let a = slice_index lower_digits (d / 16) in
+    let b = slice_index lower_digits (d % 16) in
+    let one = turned 10 a (no_digit 10 a (d / 16) refl (IsDigits-lower_digits (d / 16) high)) in
+    let two = turned 10 b (no_digit 10 b (d % 16) refl (IsDigits-lower_digits (d % 16) low)) in
+    and_true _ _ (ap not one) (and_true _ _ (ap not two) (digits_whole digest (λ k. bytes (suc k))))
+
+mark_whole : (escapes : Bool) → no_feeds (if escapes then codes "\\" else []) ≡ true
+mark_whole true = refl
+mark_whole false = refl
+
+pub whole : LinesAreWhole
+whole name digest bytes =
+    let first = (if list_any is_escaped name then codes "\\" else []) in
+    joins ((first ++ encode_lower digest) ++ codes "  ") (escaped name)
+    (joins (first ++ encode_lower digest) (codes "  ")
+    (joins first (encode_lower digest) (mark_whole (list_any is_escaped name)) (digits_whole digest bytes)) refl)
+    (name_whole name)

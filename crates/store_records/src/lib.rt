@@ -10,5 +10,5 @@ mod sums;
 pub use descriptions::{Described, MOST_BYTES};
 pub use digits::{Digest, digits_of};
 pub use faults::SumsFault;
-pub use sum_laws::lines_read_back;
+pub use sum_laws::{lines_are_whole, lines_read_back};
 pub use sums::{LineFault, Sums};
