@@ -40,8 +40,8 @@ digest_of digits = result_ok (decode_sized digits 32)
 abbrev pub is_separator : List ℕ → Bool
 is_separator bytes = bytes_eq bytes (codes "  ") || bytes_eq bytes (codes " *")
 
--- the name and the digest of a line without a backslash at its beginning, whose name is escaped or not: 64 digits, a separator and a name
--- that isn't empty
+-- the name and the digest of a line without a backslash at its beginning, whose name is escaped or not: 64 digits, a separator and at least
+-- one more byte; what is after the separator is the name, without `./`
 abbrev pub said_after : Bool → List ℕ → Option (List ℕ × List ℕ)
 said_after is_escaped line =
     if nat_le (length line) 66 || not (is_separator (drop 64 (take 66 line))) then None
