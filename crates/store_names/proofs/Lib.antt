@@ -1,10 +1,13 @@
 pub mod AllPlaces
 pub mod Described
+pub mod DescriptionLaws
 pub mod Distinct
 pub mod Folders
 pub mod Free
 pub mod Keys
+pub mod Letters
 pub mod Marks
+pub mod MountPoints
 pub mod Numbers
 pub mod Partition
 pub mod Pieces

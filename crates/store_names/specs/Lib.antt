@@ -1,7 +1,9 @@
+pub mod DescriptionLaws
 pub mod Descriptions
 pub mod Folders
 pub mod Laws
 pub mod Layouts
+pub mod Mounts
 pub mod Names
 pub mod Parts
 pub mod Patterns

@@ -1,4 +1,8 @@
 //! What locks keep apart on a mount, by the kernel's table of mounts.
+ghost use Rattle.std.specs.Prelude.{◌≡◌, ◌↔◌, IfOk, IsTrue, string_bytes};
+ghost use Rattle.store_names.specs.Mounts.{IsAtOrBelow, as_in_table, is_among, is_local, locking_of, may_follow, of_clients, of_one_host, of_servers};
+
+use crate::texts::after;
 use std::alloc::{AllocError, Global};
 
 /// Whom a lock by flock(2) keeps out on a file system.
@@ -83,7 +87,9 @@ fn has_number(table: &str, number: &str) -> bool {
 }
 
 /// A path as the table has it: with octal numbers for what would end a field, and for what they begin with.
-fn as_in_table(alloc: Global, path: &str) -> Result<String, AllocError> {
+fn as_in_table(alloc: Global, path: &str) -> Result<String, AllocError>
+    ensures { IfOk result (λ text. string_bytes text ≡ as_in_table path.now) }
+{
     let mut text = String::new(alloc);
     for letter in path.chars() {
         match letter {
@@ -116,23 +122,59 @@ fn mount_of(line: &str) -> Option<Mount<'_>> {
 }
 
 /// What the locks are on a file system of this kind that is mounted with these options.
-fn locking_of(kind: &str, options: &str) -> Locking {
-    if OF_ONE_HOST.contains(&kind) {
+fn locking_of(kind: &str, options: &str) -> Locking
+    ensures { result ≡ locking_of kind.now options.now }
+{
+    if is_of_one_host(kind) {
         return Locking::OneHost;
     }
-    let is_local = options
-        .split(',')
-        .any(|option| OF_CLIENTS.contains(&option));
-    if OF_SERVERS.contains(&kind) && !is_local {
+    if is_of_servers(kind) && !is_local(options) {
         return Locking::SharedFiles;
     }
     Locking::Unknown
 }
 
+/// Whether a kind of file systems is one that one host has at a time.
+fn is_of_one_host(kind: &str) -> bool
+    ensures { result ≡ is_among kind.now of_one_host }
+{
+    OF_ONE_HOST.contains(&kind)
+}
+
+/// Whether a kind of file systems is one whose clients take a lock of a file at the server.
+fn is_of_servers(kind: &str) -> bool
+    ensures { result ≡ is_among kind.now of_servers }
+{
+    OF_SERVERS.contains(&kind)
+}
+
+/// Whether a client takes locks at its own host alone by this option.
+fn is_of_clients(option: &str) -> bool
+    ensures { result ≡ is_among option.now of_clients }
+{
+    OF_CLIENTS.contains(&option)
+}
+
+/// Whether a client takes locks at its own host alone by one of these options.
+fn is_local(options: &str) -> bool
+    ensures { result ≡ is_local options.now }
+{
+    options.split(',').any(is_of_clients)
+}
+
 /// Whether a path is a mount point or below it.
-fn is_at_or_below(path: &str, point: &str) -> bool {
-    match path.strip_prefix(point) {
-        Some(rest) => point == "/" || rest.is_empty() || rest.starts_with('/'),
+fn is_at_or_below(path: &str, point: &str) -> bool
+    ensures { IsTrue result ↔ IsAtOrBelow path.now point.now }
+{
+    match after(path, point) {
+        Some(rest) => may_follow(point, rest),
         None => false,
     }
+}
+
+/// Whether a path may have this after a mount point that it is at or below.
+fn may_follow(point: &str, rest: &str) -> bool
+    ensures { result ≡ may_follow point.now rest.now }
+{
+    point == "/" || rest.is_empty() || rest.starts_with('/')
 }

@@ -1,4 +1,5 @@
 //! What holds of the names of a pattern, of whichever stripes and places: calls that do nothing, for their contracts.
+ghost use Rattle.store_names.specs.DescriptionLaws.{DescriptionsSayTheirStripe};
 ghost use Rattle.store_names.specs.Laws.{NamesDiffer, PartsArePartition};
 ghost use Rattle.store_names.specs.RunLaws.{EachLeavesOnlyItsOwn, LockIsWhole, UnfinishedIsNoFragment};
 
@@ -31,4 +32,9 @@ pub fn each_part_leaves_only_its_own()
 /// A lock is no unfinished file.
 pub fn lock_is_whole()
     ensures { LockIsWhole }
+{}
+
+/// The name of a description of a stripe, as `description_names` makes it, says that stripe to `described_stripe`, and no other.
+pub fn descriptions_say_their_stripe()
+    ensures { DescriptionsSayTheirStripe }
 {}

@@ -8,11 +8,8 @@ use Rattle.std.proofs.lemmas.Str.{encodes-chars}
 use Rattle.std.proofs.lemmas.Iterator.{YieldsList-from_chars, YieldsList-from_take}
 use Rattle.std.proofs.lemmas.Iterator.Consumers.{YieldsList-end}
 use Rattle.store_names.specs.RunFiles.{IsRun, is_host, is_of_host, kept}
+use Rattle.store_names.proofs.Letters.{as_they_are}
 use Rattle.store_names.proofs.temporary.run_named.Goals as goal
-
-as_they_are : (letters : List ℕ) → map (λ letter. letter) letters ≡ letters
-as_they_are [] = refl
-as_they_are (x ∷ letters) = ap (λ t. x ∷ t) (as_they_are letters)
 
 pub returns-clause-is : goal.returns-clause-is
 returns-clause-is c =
