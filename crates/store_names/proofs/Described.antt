@@ -1,5 +1,6 @@
 -- The names of descriptions: each says one stripe.
-use Rattle.std.proofs.Common.{◌≡◌, ◌∙◌, sym, ap, refl, inl, inr, ℕ, arith, List, [], ◌∷◌, ◌++◌, append_assoc, codes, get_or, length, map, take, ◌≤◌, String, string_bytes}
+use Rattle.std.proofs.Common.{◌≡◌, ◌∙◌, sym, ap, refl, inl, inr, ℕ, arith, List, [], ◌∷◌, ◌++◌, append_assoc, codes, get_or, length, map}
+use Rattle.std.proofs.Common.{take, ◌≤◌, String, string_bytes}
 use Rattle.std.proofs.lemmas.List.{append_cancel_right, take_all}
 use Rattle.store_names.specs.Descriptions.{Describes, description_in, descriptions_in}
 use Rattle.store_names.proofs.Keys.{ends_same}
@@ -26,10 +27,6 @@ module _ (last stripe : List ℕ) where
     | inr second ↦ absurd (not_both_endings other stripe (sym second ∙ is))
   ]
 
-pub says_nothing : (last : List ℕ) → ((stripe : List ℕ) → last ≡ stripe ++ codes ".file" → ⊥)
-    → ((stripe : List ℕ) → last ≡ stripe ++ codes ".file.copy" → ⊥) → (stripe : List ℕ) → ¬ Describes last stripe
-says_nothing last first second stripe says = elim says.is [ inl is ↦ first stripe is | inr is ↦ second stripe is ]
-
 -- ---- the names in some folders
 
 one_more : {Z : Type 0} (x e : String Z) (stripe : List ℕ) → e ≡ x
@@ -47,7 +44,8 @@ in_one (x ∷ []) e stripe one is = one_more x e stripe is
 in_one (x ∷ y ∷ more) e stripe one is = absurd (omega (arith, one))
 
 pub in_several : {Z : Type 0} (folders : List (String Z)) (stripe : List ℕ) → (length folders ≡ 1 → ⊥)
-    → map (λ folder. description_in folder stripe (codes ".file")) (map string_bytes folders) ≡ descriptions_in (map string_bytes folders) stripe
+    → map (λ folder. description_in folder stripe (codes ".file")) (map string_bytes folders)
+    ≡ descriptions_in (map string_bytes folders) stripe
 in_several [] stripe several = refl
 in_several (x ∷ []) stripe several = absurd (several refl)
 in_several (x ∷ y ∷ more) stripe several = refl

@@ -1,5 +1,6 @@
 -- What the names of descriptions say.
-use Rattle.std.proofs.Common.{◌≡◌, ◌∙◌, sym, inl, inr, refl, ℕ, ◌<◌, true, not, ◌==◌, nat_lt, List, [], ◌∷◌, ◌++◌, append_assoc, codes, length}
+use Rattle.std.proofs.Common.{◌≡◌, ◌∙◌, sym, inl, inr, refl, ℕ, ◌<◌, true, not, ◌==◌, nat_lt, List, [], ◌∷◌, ◌++◌, append_assoc, codes}
+use Rattle.std.proofs.Common.{length}
 use Rattle.std.specs.List.{list_all}
 use Rattle.std.proofs.lemmas.Bool.{and_parts, ltb-true}
 use Rattle.store_names.specs.Texts.{lacks}

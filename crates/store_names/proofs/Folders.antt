@@ -1,10 +1,14 @@
 -- Folders among others.
-use Rattle.std.proofs.Common.{◌≡◌, ◌∙◌, sym, ap, subst, inl, inr, ◌⊎◌, ℕ, arith, true, List, [], ◌∷◌, ◌++◌, map, MatchOption, None, Option, Some, String, string_bytes}
+use Rattle.std.proofs.Common.{Decides, ◌≡◌, ◌∙◌, sym, ap, refl, subst, inl, inr, ◌⊎◌, ℕ, arith, true, List, [], ◌∷◌, ◌++◌, map}
+use Rattle.std.proofs.Common.{MatchOption, None, Option, Some, String, string_bytes}
 use Rattle.std.specs.List.{Contains, list_any}
+use Rattle.std.specs.Cmp.Lexicographic.{pointwise}
 use Rattle.std.specs.Str.{bytes_eq}
-use Rattle.std.proofs.lemmas.Bool.{or_cases, or_left, or_right}
+use Rattle.std.specs.String.{string_eq}
+use Rattle.std.proofs.lemmas.Bool.{and_from, and_parts, false≢true, or_cases, or_left, or_right}
 use Rattle.std.proofs.lemmas.Slice.Eq.{bytes_eq-Decides}
-use Rattle.std.proofs.lemmas.List.Elements.{Contains-append_cases, Contains-append_left, Contains-get_or, Contains-append_right, Contains-push, Contains-push_cases}
+use Rattle.std.proofs.lemmas.List.Elements.{Contains-append_cases, Contains-append_left, Contains-get_or, Contains-append_right}
+use Rattle.std.proofs.lemmas.List.Elements.{Contains-push, Contains-push_cases}
 use Rattle.std.proofs.lemmas.List.Quantifiers.{all_pairs_push}
 use Rattle.lrc_code.specs.declared.places.Place.{Place}
 use Rattle.lrc_code.specs.declared.codes.Code.{Code as CodeName}
@@ -19,11 +23,12 @@ use Rattle.store_names.proofs.Marks.{last_same, not_both}
 pub any_is : {Z : Type 0} (texts : List (String Z)) (text : List ℕ) → list_any (λ other. bytes_eq (string_bytes other) text) texts ≡ true
     → Contains (map string_bytes texts) text
 any_is [] text so = cc
-any_is (x ∷ texts) text so = elim (or_cases (bytes_eq (string_bytes x) text) (list_any (λ other. bytes_eq (string_bytes other) text) texts) so) [
-  | inl same ↦ subst (Contains (map string_bytes (x ∷ texts))) ((bytes_eq-Decides (string_bytes x) text).0 same)
-      (Contains-append_left (string_bytes x ∷ []) (map string_bytes texts) (string_bytes x) (Contains-push [] (string_bytes x)))
-  | inr other ↦ Contains-append_right (string_bytes x ∷ []) (map string_bytes texts) text (any_is texts text other)
-]
+any_is (x ∷ texts) text so = elim (or_cases (bytes_eq (string_bytes x) text) (list_any (λ other. bytes_eq
+    (string_bytes other) text) texts) so) [
+      | inl same ↦ subst (Contains (map string_bytes (x ∷ texts))) ((bytes_eq-Decides (string_bytes x) text).0 same)
+          (Contains-append_left (string_bytes x ∷ []) (map string_bytes texts) (string_bytes x) (Contains-push [] (string_bytes x)))
+      | inr other ↦ Contains-append_right (string_bytes x ∷ []) (map string_bytes texts) text (any_is texts text other)
+    ]
 
 pub is_any : {Z : Type 0} (texts : List (String Z)) (text : List ℕ) → Contains (map string_bytes texts) text
     → list_any (λ other. bytes_eq (string_bytes other) text) texts ≡ true
@@ -42,7 +47,8 @@ pub folder_same : (name a b : List ℕ) → IsFolderOf name a → IsFolderOf nam
 folder_same name a b (own_folder _ is) (own_folder _ is') = is ∙ sym is'
 folder_same name a b (own_folder lack _) (folder_before last at) = absurd (not_both 47 name b last at.is lack)
 folder_same name a b (folder_before last at) (own_folder lack _) = absurd (not_both 47 name a last at.is lack)
-folder_same name a b (folder_before last at) (folder_before other at') = (last_same 47 a b last other at.last at'.last (sym at.is ∙ at'.is)).0
+folder_same name a b (folder_before last at) (folder_before other at') = (last_same 47 a b last other at.last at'.last (sym at.is
+    ∙ at'.is)).0
 
 -- a stripe has one name at a place
 name_same : (p : Pattern) (code : CodeName) (stripe : List ℕ) (place : Place) (name other : List ℕ) → IsNameOf p code stripe place name
@@ -102,7 +108,8 @@ module _ (p : Pattern) (code : CodeName) (stripe : List ℕ) where
 
       is_here : (other : List ℕ) (at : HasFragmentAt p code (places ++ (place ∷ [])) stripe other) → place ≡ at.place → folder ≡ other
       is_here other at is = folder_same name folder other inside (subst (λ n. IsFolderOf n other)
-          (name_same p code stripe place at.name name (subst (λ q. IsNameOf p code stripe q at.name) (sym is) at.is_name) named) at.is_folder)
+          (name_same p code stripe place at.name name (subst (λ q. IsNameOf p code stripe q at.name)
+          (sym is) at.is_name) named) at.is_folder)
 
       pub put : (folders more : List (List ℕ)) → AreFoldersAt p code places stripe folders → IsAdded folders folder more
           → AreFoldersAt p code (places ++ (place ∷ [])) stripe more
@@ -130,7 +137,8 @@ module _ (p : Pattern) (code : CodeName) (stripe : List ℕ) where
 -- ---- what `name_of` says
 
 module _ {Z : Type 0} (p : Pattern) (code : CodeName) (stripe : List ℕ) (place : Place) (o : Option (String Z))
-    (is : MatchOption o ((name : List ℕ) → IsNameOf p code stripe place name → ⊥) (λ name. IsNameOf p code stripe place (string_bytes name))) where
+    (is : MatchOption o ((name : List ℕ) → IsNameOf p code stripe place name
+    → ⊥) (λ name. IsNameOf p code stripe place (string_bytes name))) where
   pub named : (name : String Z) → o ≡ Some name → IsNameOf p code stripe place (string_bytes name)
   named name some = subst (λ (r : Option (String Z)). MatchOption r ((name : List ℕ) → IsNameOf p code stripe place name → ⊥)
       (λ name. IsNameOf p code stripe place (string_bytes name))) some is
@@ -138,3 +146,19 @@ module _ {Z : Type 0} (p : Pattern) (code : CodeName) (stripe : List ℕ) (place
   pub unnamed : o ≡ None → (name : List ℕ) → IsNameOf p code stripe place name → ⊥
   unnamed none = subst (λ (r : Option (String Z)). MatchOption r ((name : List ℕ) → IsNameOf p code stripe place name → ⊥)
       (λ name. IsNameOf p code stripe place (string_bytes name))) none is
+
+-- ---- the same texts
+
+pub texts_same : {Z : Type 0} (xs ys : List (String Z)) → Decides (pointwise string_eq xs ys) (map string_bytes xs ≡ map string_bytes ys)
+texts_same [] [] = (λ so. refl, λ same. refl)
+texts_same [] (y ∷ ys) = (λ so. absurd (false≢true so), λ same. cc)
+texts_same (x ∷ xs) [] = (λ so. absurd (false≢true so), λ same. cc)
+texts_same (x ∷ xs) (y ∷ ys) =
+    let rest = texts_same xs ys in
+    let first = bytes_eq-Decides (string_bytes x) (string_bytes y) in (
+      λ so. let parts = and_parts (string_eq x y) (pointwise string_eq xs ys) so in
+          ap (λ t. string_bytes x ∷ t) (rest.0 parts.1) ∙ ap (λ t. t ∷ map string_bytes ys) (first.0 parts.0),
+      λ same. let heads : string_bytes x ≡ string_bytes y = cc same in
+          let tails : map string_bytes xs ≡ map string_bytes ys = cc same in
+          and_from (string_eq x y) (pointwise string_eq xs ys) (first.1 heads) (rest.1 tails),
+    )

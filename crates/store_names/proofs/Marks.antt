@@ -55,7 +55,8 @@ lacks_append mark xs ys one two = list_all-append (λ byte. not (byte == mark)) 
 -- a text that has a byte doesn't lack it
 pub has_it : (mark : ℕ) (xs ys : List ℕ) → lacks mark (xs ++ (mark ∷ ys)) ≡ true → ⊥
 has_it mark xs ys is =
-    let parts = and_parts (lacks mark xs) (lacks mark (mark ∷ ys)) (sym (list_all-append (λ byte. not (byte == mark)) xs (mark ∷ ys)) ∙ is) in
+    let parts = and_parts (lacks mark xs) (lacks mark (mark ∷ ys)) (sym (list_all-append (λ byte. not (byte == mark)) xs
+    (mark ∷ ys)) ∙ is) in
     both_ways _ (not_from_true _ (eq-eqb mark mark refl)) (and_parts _ _ parts.1).0
 
 pub not_both : (mark : ℕ) (text xs ys : List ℕ) → text ≡ xs ++ (mark ∷ ys) → lacks mark text ≡ true → ⊥

@@ -1,5 +1,6 @@
 -- What is at a mount point or below it.
-use Rattle.std.proofs.Common.{Decides, ◌≡◌, ◌∙◌, sym, ap, inl, inr, ℕ, arith, Bool, true, false, ◌||◌, ◌==◌, List, [], ◌∷◌, ◌++◌, append-nil, codes, length, length-append}
+use Rattle.std.proofs.Common.{Decides, ◌≡◌, ◌∙◌, sym, ap, inl, inr, ℕ, arith, Bool, true, false, ◌||◌, ◌==◌, List, [], ◌∷◌, ◌++◌}
+use Rattle.std.proofs.Common.{append-nil, codes, length, length-append}
 use Rattle.std.specs.Prelude.{slice_index}
 use Rattle.std.specs.Str.{bytes_eq}
 use Rattle.std.proofs.lemmas.Bool.{eq-eqb, eqb-true, or_cases, or_left, or_right}

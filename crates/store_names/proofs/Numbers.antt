@@ -14,7 +14,8 @@ digit n lt = grind (arith, nat_tests)
 
 pub all_digits : (n : ℕ) → n < 2 ^ 64 → list_all is_ascii_digit (decimal n) ≡ true
 all_digits n fits = decimal_by_steps (λ m ds. list_all is_ascii_digit ds ≡ true) (λ m lt. and_from _ _ (digit m lt) refl)
-    (λ m ds le front. list_all-append is_ascii_digit ds ((48 + m % 10) ∷ []) ∙ and_from _ _ front (and_from _ _ (digit (m % 10) (omega arith)) refl))
+    (λ m ds le front. list_all-append is_ascii_digit ds ((48 + m % 10) ∷ [])
+    ∙ and_from _ _ front (and_from _ _ (digit (m % 10) (omega arith)) refl))
     n fits
 
 pub number_of : (n : ℕ) → 0 < n → n < 2 ^ 64 → is_number (decimal n) ≡ true

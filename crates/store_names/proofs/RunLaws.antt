@@ -1,5 +1,6 @@
 -- The files of runs are apart from all others.
-use Rattle.std.proofs.Common.{◌≡◌, ◌∙◌, sym, ap, refl, inl, inr, ℕ, ◌<◌, ◌-◌, ◌^◌, arith, true, false, not, ◌&&◌, List, [], ◌∷◌, ◌++◌, codes, length, drop, get_or, append_assoc, length-append, ◌==◌}
+use Rattle.std.proofs.Common.{◌≡◌, ◌∙◌, sym, ap, refl, inl, inr, ℕ, ◌<◌, ◌-◌, ◌^◌, arith, true, false, not, ◌&&◌, List, [], ◌∷◌, ◌++◌}
+use Rattle.std.proofs.Common.{codes, length, drop, get_or, append_assoc, length-append, ◌==◌}
 use Rattle.std.specs.List.{list_all, starts_with, onto_first}
 use Rattle.std.specs.Char.{is_ascii_digit}
 use Rattle.std.specs.Fmt.{decimal}
@@ -55,10 +56,10 @@ tag_no_p tag more rest (of_both part run is (inl none) says) same = dash_no_p (r
 tag_no_p tag more rest (of_both part run is (inr first) says) same = part_no_p part ((45 ∷ run) ++ more) rest first
     (sym (append_assoc part (45 ∷ run) more) ∙ ap (λ t. t ++ more) (sym is) ∙ same)
 
-pub lock_is_whole : LockIsWhole
-lock_is_whole name lock (bare digits is random) = no_p_digits digits _ random
+pub no_lock_unfinished : LockIsWhole
+no_lock_unfinished name lock (bare digits is random) = no_p_digits digits _ random
     (append_cancel_left (codes ".rebuild-store-") digits (codes "part-" ++ lock.part) (sym is ∙ lock.is))
-lock_is_whole name lock (tagged tag digits is says random) = tag_no_p tag (45 ∷ digits) _ says
+no_lock_unfinished name lock (tagged tag digits is says random) = tag_no_p tag (45 ∷ digits) _ says
     (append_cancel_left (codes ".rebuild-store-") (tag ++ (45 ∷ digits)) (codes "part-" ++ lock.part) (sym is ∙ lock.is))
 
 -- ---- what a run of a part may have left
@@ -68,7 +69,11 @@ with_tag [] name some left = absurd (omega arith)
 with_tag (x ∷ tag) name some left = left
 
 of_tag : (index of : ℕ) (name : List ℕ) → IsLeftBy (tag_of index of) name → IsOfTag (tag_of index of) name
-of_tag index of name left = with_tag (tag_of index of) name (omega (arith, length-append (decimal index) (45 ∷ (decimal of ++ (45 ∷ []))))) left
+of_tag index of name left = with_tag (tag_of index of) name (omega (
+  arith,
+  length-append (decimal index) (45 ∷ (decimal of ++
+      (45 ∷ []))),
+)) left
 
 -- the tag, and what follows it, with the numbers apart
 tag_apart : (index of : ℕ) (own : List ℕ) → tag_of index of ++ own ≡ decimal index ++ (45 ∷ (decimal of ++ (45 ∷ own)))
@@ -81,7 +86,8 @@ lacks_dash n fits = lacks_kind is_ascii_digit 45 (decimal n) refl (all_digits n 
 same_part : (i n j m : ℕ) (own other : List ℕ) → i < 2 ^ 64 → n < 2 ^ 64 → j < 2 ^ 64 → m < 2 ^ 64
     → tag_of i n ++ own ≡ tag_of j m ++ other → (j ≡ i) × (m ≡ n)
 same_part i n j m own other fi fn fj fm is =
-    let index = first_same 45 (decimal i) (decimal j) (decimal n ++ (45 ∷ own)) (decimal m ++ (45 ∷ other)) (lacks_dash i fi) (lacks_dash j fj)
+    let index = first_same 45 (decimal i) (decimal j) (decimal n ++ (45 ∷ own)) (decimal m ++ (45 ∷ other)) (lacks_dash i fi)
+    (lacks_dash j fj)
     (sym (tag_apart i n own) ∙ is ∙ tag_apart j m other) in
     let of = first_same 45 (decimal n) (decimal m) own other (lacks_dash n fn) (lacks_dash m fm) index.1 in
     (decimal_injective j i fj fi (sym index.0), decimal_injective m n fm fn (sym of.0))
@@ -95,7 +101,8 @@ part_of index of some more fits fit = record {
   is_of = number_of of more fit;
 }
 
-own_is : (name part own : List ℕ) → IsPart [] part → name ≡ codes ".rebuild-store-" ++ (part ++ (45 ∷ own)) → IsOwn own → IsOfUnfinished name
+own_is : (name part own : List ℕ) → IsPart [] part → name ≡ codes ".rebuild-store-" ++ (part ++ (45 ∷ own)) → IsOwn own
+    → IsOfUnfinished name
 own_is name part own is_part is (own_digits random) = tagged part own is (of_part is_part) random
 own_is name part own is_part is (own_of_run run digits is_own says random) = tagged (part ++ (45 ∷ run)) digits
     (is ∙ ap (λ t. codes ".rebuild-store-" ++ (part ++ (45 ∷ t))) is_own
@@ -103,11 +110,13 @@ own_is name part own is_part is (own_of_run run digits is_own says random) = tag
     (of_both part run refl (inr is_part) says) random
 
 no_p_tag : (index of : ℕ) (own rest : List ℕ) → index < 2 ^ 64 → tag_of index of ++ own ≡ 112 ∷ rest → ⊥
-no_p_tag index of own rest fits is = first (decimal index) (decimal_nonempty index fits) (all_digits index fits) (sym (tag_apart index of own) ∙ is) where
-  first : (text : List ℕ) → 0 < length text → list_all is_ascii_digit text ≡ true → text ++ (45 ∷ (decimal of ++ (45 ∷ own))) ≡ 112 ∷ rest → ⊥
-  first [] some digits same = absurd (omega arith)
-  first (x ∷ text) some digits same =
-      let p : x ≡ 112 = cc in both_ways (is_ascii_digit 112) refl (ap is_ascii_digit (sym p) ∙ (and_parts _ _ digits).0)
+no_p_tag index of own rest fits is = first (decimal index) (decimal_nonempty index fits) (all_digits index fits) (sym
+    (tag_apart index of own) ∙ is) where
+      first : (text : List ℕ) → 0 < length text → list_all is_ascii_digit text ≡ true → text ++ (45 ∷ (decimal of ++ (45 ∷ own)))
+          ≡ 112 ∷ rest → ⊥
+      first [] some digits same = absurd (omega arith)
+      first (x ∷ text) some digits same =
+          let p : x ≡ 112 = cc in both_ways (is_ascii_digit 112) refl (ap is_ascii_digit (sym p) ∙ (and_parts _ _ digits).0)
 
 pub each_its_own : EachLeavesOnlyItsOwn
 each_its_own index of fits fit = record {
@@ -139,7 +148,8 @@ part_lacks_slash text part = ap (lacks 47) part.is ∙ lacks_append 47 part.inde
     (number_lacks_slash part.of part.is_of)
 
 run_lacks_slash : (text : List ℕ) → IsRun text → lacks 47 text ≡ true
-run_lacks_slash text run = ap (lacks 47) run.is ∙ lacks_append 47 run.process (64 ∷ run.host) (number_lacks_slash run.process run.is_process)
+run_lacks_slash text run = ap (lacks 47) run.is ∙ lacks_append 47 run.process (64 ∷ run.host)
+    (number_lacks_slash run.process run.is_process)
     (lacks_kind is_of_host 47 run.host refl (and_parts _ _ run.is_host).1)
 
 before_lacks_slash : (text : List ℕ) → IsBeforeRun text → lacks 47 text ≡ true
@@ -181,7 +191,8 @@ random_end : (front digits : List ℕ) → is_random digits ≡ true → ends_in
 random_end front digits random =
     let long : length digits ≡ 16 = eqb-true _ _ (and_parts _ _ random).0 in
     let whole = length-append front digits in
-    let at : drop (length (front ++ digits) - 16) (front ++ digits) ≡ digits = ap (λ n. drop (length (front ++ digits) - n) (front ++ digits))
+    let at : drop (length (front ++ digits) - 16) (front ++ digits) ≡ digits =
+    ap (λ n. drop (length (front ++ digits) - n) (front ++ digits))
     (sym long) ∙ end_rest (front ++ digits) digits front refl in
     and_from _ _ (lt-ltb 15 (length (front ++ digits)) (omega (arith, long, whole))) (ap (list_all is_digit) at ∙ (and_parts _ _ random).1)
 
@@ -205,10 +216,11 @@ not_free : (name : List ℕ) → IsOfUnfinished name → is_free name ≡ false
 not_free name file = ap (list_all (λ part. not (is_unfinished part))) (one_part name (ends_of name file).alone)
     ∙ ap (λ b. not b && true) (unfinished_is name file)
 
-pub unfinished_is_no_fragment : UnfinishedIsNoFragment
-unfinished_is_no_fragment p code stripe place name file = (
+pub no_fragment_unfinished : UnfinishedIsNoFragment
+no_fragment_unfinished p code stripe place name file = (
   λ made. both_ways (is_free name) (not_free name file) (free_of name made.may_be),
-  λ folder made. both_ways (is_free (folder ++ (47 ∷ name))) (free_in folder name ∙ and_right (is_free folder) (is_free name) (not_free name file))
+  λ folder made. both_ways (is_free (folder ++ (47 ∷ name))) (free_in folder name
+      ∙ and_right (is_free folder) (is_free name) (not_free name file))
       (free_of (folder ++ (47 ∷ name)) made.may_be),
 ) where
   free_of : (path : List ℕ) → is_for_fragments path ≡ true → is_free path ≡ true

@@ -1,9 +1,11 @@
 -- The names of runs' files, read from the texts that they are cut into.
-use Rattle.std.proofs.Common.{Decides, ◌≡◌, ◌∙◌, sym, ap, subst, inl, inr, ℕ, ◌<◌, arith, Bool, true, false, List, [], ◌∷◌, ◌++◌, codes, length}
+use Rattle.std.proofs.Common.{Decides, ◌≡◌, ◌∙◌, sym, ap, subst, inl, inr, ℕ, ◌<◌, arith, Bool, true, false, List, [], ◌∷◌, ◌++◌, codes}
+use Rattle.std.proofs.Common.{length}
 use Rattle.std.proofs.lemmas.Bool.{both_ways}
 use Rattle.std.proofs.lemmas.List.{append_cancel_left}
 use Rattle.store_names.specs.Texts.{IsAroundLast, lacks}
-use Rattle.store_names.specs.RunFiles.{IsLeftBy, IsLock, IsOfRuns, IsOfTag, IsOfUnfinished, IsOwn, IsPart, IsRun, IsRunIn, IsTag, SaysRun, is_random}
+use Rattle.store_names.specs.RunFiles.{IsLeftBy, IsLock, IsOfRuns, IsOfTag, IsOfUnfinished, IsOwn, IsPart, IsRun, IsRunIn, IsTag}
+use Rattle.store_names.specs.RunFiles.{SaysRun, is_random}
 use Rattle.store_names.specs.RunFiles.IsOwn.{own_digits, own_of_run}
 use Rattle.store_names.specs.RunFiles.IsOfUnfinished.{bare, tagged}
 use Rattle.store_names.proofs.Marks.{last_same, not_both}
@@ -135,11 +137,8 @@ module _ (name rest before digits : List ℕ) (is : name ≡ codes ".rebuild-sto
     is_digits = random;
   }
 
-pub says_none : (name rest : List ℕ) → name ≡ codes ".rebuild-store-" ++ rest → lacks 45 rest ≡ true → (run : List ℕ) → ¬ SaysRun name run
-says_none name rest is lack run says =
-    not_both 45 rest says.text says.digits (rest_same name rest is (says.text ++ (45 ∷ says.digits)) says.is) lack
-
-pub runs_second : (name : List ℕ) (b c : Bool) → Decides b (IsOfUnfinished name) → b ≡ false → Decides c (IsLock name) → Decides c (IsOfRuns name)
+pub runs_second : (name : List ℕ) (b c : Bool) → Decides b (IsOfUnfinished name) → b ≡ false → Decides c (IsLock name)
+    → Decides c (IsOfRuns name)
 runs_second name b c tells gone other = (λ is. inr (other.0 is), from) where
   from : IsOfRuns name → c ≡ true
   from (inl file) = absurd (both_ways b gone (tells.1 file))

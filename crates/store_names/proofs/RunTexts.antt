@@ -1,5 +1,6 @@
 -- What the texts of runs' names are made of has no `-` and no `@`, so that they can be cut in one way.
-use Rattle.std.proofs.Common.{Decides, ◌≡◌, ◌∙◌, sym, ap, refl, subst, inl, inr, ◌⊎◌, ℕ, Bool, true, false, List, [], ◌∷◌, ◌++◌, append_assoc, not, ◌==◌}
+use Rattle.std.proofs.Common.{Decides, ◌≡◌, ◌∙◌, sym, ap, refl, subst, inl, inr, ◌⊎◌, ℕ, Bool, true, false, List, [], ◌∷◌, ◌++◌}
+use Rattle.std.proofs.Common.{append_assoc, not, ◌==◌}
 use Rattle.std.specs.List.{list_all}
 use Rattle.std.specs.Char.{is_ascii_digit}
 use Rattle.std.proofs.lemmas.Bool.{and_parts, both_ways, false≢true}
@@ -35,7 +36,8 @@ module _ (between text index rest : List ℕ) (at : IsAroundFirst 45 text index 
   pub part_read : (p : IsPart between text) → (index ≡ p.index) × (rest ≡ between ++ p.of)
   part_read p = first_same 45 index p.index rest (between ++ p.of) at.first (number_lacks_dash p.index p.is_index) (sym at.is ∙ p.is)
 
-  pub part_yes : (of : List ℕ) (b : Bool) → rest ≡ between ++ of → is_number index ≡ true → b ≡ is_number of → Decides b (IsPart between text)
+  pub part_yes : (of : List ℕ) (b : Bool) → rest ≡ between ++ of → is_number index ≡ true → b ≡ is_number of
+      → Decides b (IsPart between text)
   part_yes of b is number is_b = (
     λ yes. record {
       index = index;
@@ -54,7 +56,8 @@ module _ (between text index rest : List ℕ) (at : IsAroundFirst 45 text index 
   part_not_between none = never (λ p. none p.of (part_read p).1)
 
 pub part_lacks_at : (text : List ℕ) → IsPart [] text → lacks 64 text ≡ true
-part_lacks_at text p = ap (lacks 64) p.is ∙ lacks_append 64 p.index (45 ∷ p.of) (number_lacks_at p.index p.is_index) (number_lacks_at p.of p.is_of)
+part_lacks_at text p = ap (lacks 64) p.is ∙ lacks_append 64 p.index (45 ∷ p.of) (number_lacks_at p.index p.is_index)
+    (number_lacks_at p.of p.is_of)
 
 pub before_lacks_at : (text : List ℕ) → IsBeforeRun text → lacks 64 text ≡ true
 before_lacks_at text (inl none) = ap (lacks 64) none
@@ -84,7 +87,8 @@ after_part text left host part process rest is is_left is_rest = append_cancel_l
 pub later_in : (text left host part process rest run : List ℕ) → IsAroundFirst 64 text left host → IsAroundLast 45 left part process
     → text ≡ part ++ rest → rest ≡ 45 ∷ run → IsRunIn text part run
 later_in text left host part process rest run at last is_rest is_run =
-    let both : (45 ∷ run) ≡ (45 ∷ (process ++ (64 ∷ host))) = sym is_run ∙ after_part text left host part process rest at.is last.is is_rest in
+    let both : (45 ∷ run) ≡ (45 ∷ (process ++ (64 ∷ host))) = sym is_run
+    ∙ after_part text left host part process rest at.is last.is is_rest in
     let lack = and_parts (lacks 64 part) (lacks 64 (45 ∷ process))
     (sym (list_all-append (λ byte. not (byte == 64)) part (45 ∷ process)) ∙ ap (lacks 64) (sym last.is) ∙ at.first) in
     later process host (is_rest ∙ ap (λ t. part ++ t) is_run) (append_cancel_left (45 ∷ []) run (process ++ (64 ∷ host)) both) lack.0
@@ -111,7 +115,8 @@ run_in_same text a r b s (alone p h is l64 l45 none all) (later q i is' is_run k
     let same = first_same 64 p (b ++ (45 ∷ q)) h i l64 (lacks_append 64 b (45 ∷ q) kb k64) (sym is ∙ later_left text b s q i is' is_run) in
     absurd (not_both 45 p b q same.0 l45)
 run_in_same text a r b s (later p h is is_run la l64 l45) (alone q i is' k64 k45 none all) =
-    let same = first_same 64 (a ++ (45 ∷ p)) q h i (lacks_append 64 a (45 ∷ p) la l64) k64 (sym (later_left text a r p h is is_run) ∙ is') in
+    let same = first_same 64 (a ++ (45 ∷ p)) q h i (lacks_append 64 a (45 ∷ p) la l64) k64 (sym (later_left text a r p h is is_run)
+    ∙ is') in
     absurd (not_both 45 q a p (sym same.0) k45)
 run_in_same text a r b s (later p h is is_run la l64 l45) (later q i is' is_run' kb k64 k45) =
     let same = first_same 64 (a ++ (45 ∷ p)) (b ++ (45 ∷ q)) h i (lacks_append 64 a (45 ∷ p) la l64) (lacks_append 64 b (45 ∷ q) kb k64)
@@ -123,7 +128,8 @@ run_in_same text a r b s (later p h is is_run la l64 l45) (later q i is' is_run'
 
 -- where a text has the form of a run, the run in it is all of it
 pub run_is_alone : (text : List ℕ) → IsRun text → IsRunIn text [] text
-run_is_alone text r = alone r.process r.host r.is (number_lacks_at r.process r.is_process) (number_lacks_dash r.process r.is_process) refl refl
+run_is_alone text r = alone r.process r.host r.is (number_lacks_at r.process r.is_process)
+    (number_lacks_dash r.process r.is_process) refl refl
 
 pub run_is_later : (text before run : List ℕ) → text ≡ before ++ (45 ∷ run) → lacks 64 before ≡ true → IsRun run → IsRunIn text before run
 run_is_later text before run is lack r = later r.process r.host is r.is lack (number_lacks_at r.process r.is_process)
@@ -136,7 +142,14 @@ pub tag_says : (text : List ℕ) → IsTag text → IsPart [] text
     ⊎ ((before : List ℕ) × (run : List ℕ) × IsRunIn text before run × IsBeforeRun before × IsRun run)
 tag_says text (of_part part) = inl part
 tag_says text (of_run run) = inr ([], text, run_is_alone text run, inl refl, run)
-tag_says text (of_both part run is before says) = inr (part, run, run_is_later text part run is (before_lacks_at part before) says, before, says)
+tag_says text (of_both part run is before says) = inr (
+  part,
+  run,
+  run_is_later text part run is
+      (before_lacks_at part before) says,
+  before,
+  says,
+)
 
 said : (text before run : List ℕ) → IsRunIn text before run → IsBeforeRun before → IsRun run → IsTag text
 said text before run (alone _ _ _ _ _ _ all) first says = of_run (subst IsRun all says)
@@ -155,9 +168,3 @@ module _ (text before run : List ℕ) (in_it : IsRunIn text before run) where
 
   pub tag_not_before : (b : Bool) → Decides b (IsBeforeRun before) → b ≡ false → Decides b (IsTag text)
   tag_not_before b tells gone = (λ yes. absurd (both_ways b gone yes), λ tag. tells.1 (says_parts tag).0)
-
-pub tag_of_part : (text : List ℕ) (b : Bool) → lacks 64 text ≡ true → Decides b (IsPart [] text) → Decides b (IsTag text)
-tag_of_part text b lack tells = (
-  λ yes. of_part (tells.0 yes),
-  λ tag. elim (tag_says text tag) [ inl part ↦ tells.1 part | inr says ↦ absurd (run_in_has_at text says.0 says.1 says.2 lack) ],
-)

@@ -1,5 +1,5 @@
 -- The folders of names in a store.
-use Rattle.std.specs.Prelude.{◌≡◌, ◌≢◌, ℕ, true, List, [], ◌∷◌, ◌++◌}
+use Rattle.std.specs.Prelude.{◌≡◌, ◌≢◌, ℕ, true, List, [], ◌∷◌, ◌++◌, codes, ◌⊎◌}
 use Rattle.std.specs.List.{AllPairs, Contains}
 use Rattle.lrc_code.specs.declared.places.Place.{Place}
 use Rattle.lrc_code.specs.declared.codes.Code.{Code as CodeName}
@@ -39,6 +39,20 @@ pub record AreFoldersAt (p : Pattern) (code : CodeName) (places : List Place) (s
 -- the same at the code's places
 abbrev pub AreFolders : Pattern → CodeName → List ℕ → List (List ℕ) → Type 0
 AreFolders p code stripe folders = AreFoldersAt p code (tables_of code).places stripe folders
+
+-- the folders that the fragments of a stripe `a` are in, if those of a stripe `b` are in the same ones, and none is the store's own
+pub record AreDisks (p : Pattern) (code : CodeName) (folders : List (List ℕ)) : Type 0 where
+  pub of_a : AreFolders p code (codes "a") folders
+  pub of_b : AreFolders p code (codes "b") folders
+  pub not_own : ¬ Contains folders []
+
+-- there are no such ones
+pub record AreNoDisks (p : Pattern) (code : CodeName) : Type 0 where
+  pub folders : List (List ℕ)
+  pub others : List (List ℕ)
+  pub of_a : AreFolders p code (codes "a") folders
+  pub of_b : AreFolders p code (codes "b") others
+  pub is : (folders ≢ others) ⊎ Contains folders []
 
 -- a folder was put behind some, unless it was among them
 pub data IsAdded (old : List (List ℕ)) (folder : List ℕ) (new : List (List ℕ)) : Type 0 where

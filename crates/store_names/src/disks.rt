@@ -1,7 +1,7 @@
 //! The folders of a store's fragments: one for each disk, where the pattern of names says so.
-ghost use Rattle.std.specs.Prelude.{◌↔◌, IfOk, IsTrue, OnOk, map, string_bytes};
+ghost use Rattle.std.specs.Prelude.{◌≡◌, ◌↔◌, IfOk, IsTrue, MatchOption, OnOk, map, string_bytes};
 ghost use Rattle.std.specs.List.{Contains};
-ghost use Rattle.store_names.specs.Folders.{AreFolders, HasFragment, IsAdded};
+ghost use Rattle.store_names.specs.Folders.{AreDisks, AreFolders, AreNoDisks, HasFragment, IsAdded};
 
 use crate::paths::folder_in;
 use crate::patterns::Pattern;
@@ -49,18 +49,23 @@ pub fn disk_folders(
     alloc: Global,
     pattern: &Pattern<'_>,
     code: Code,
-) -> Result<Option<Vec<String>>, AllocError> {
+) -> Result<Option<Vec<String>>, AllocError>
+    ensures { IfOk result (λ o. MatchOption o (AreNoDisks pattern.now code)
+        (λ folders. AreDisks pattern.now code (map string_bytes folders.items))) }
+{
     let folders = stripe_folders(alloc, pattern, code, "a")?;
     let others = stripe_folders(alloc, pattern, code, "b")?;
-    let are_same = folders
-        .iter()
-        .zip(others.iter())
-        .all(|(one, other)| one.as_str() == other.as_str());
-    let is_own = |folder: &String| folder.is_empty();
-    if !are_same || folders.len() != others.len() || folders.iter().any(is_own) {
+    if !are_same(folders.as_slice(), others.as_slice()) || has(folders.as_slice(), "") {
         return Ok(None);
     }
     Ok(Some(folders))
+}
+
+/// Whether two lists have the same folders in the same order.
+fn are_same(folders: &[String], others: &[String]) -> bool
+    ensures { IsTrue result ↔ map string_bytes folders.now ≡ map string_bytes others.now }
+{
+    folders == others
 }
 
 /// Whether fragments of a stripe are in a folder of the store.

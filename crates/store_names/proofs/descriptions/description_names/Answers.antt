@@ -9,7 +9,8 @@ pub returns : goal.returns
 returns c =
     let folders = c.in_ok-folders.folders.items in
     let stripe = c.args.stripe.now in
-    let names : map string_bytes c.loop-folder.names.items ≡ map (λ folder. description_in folder stripe (codes ".file")) (map string_bytes folders)
+    let names : map string_bytes c.loop-folder.names.items ≡ map (λ folder. description_in folder stripe (codes ".file"))
+    (map string_bytes folders)
     = all_names (map string_bytes c.loop-folder.names.items) folders c.deref-folder-items.result.now c.loop-folder.folder-index stripe
     c.loop-folder.invariant c.deref-folder-items.ensures.value c.loop-folder-test.false in
     elim c.if-len-eq1.branch [
@@ -18,7 +19,8 @@ returns c =
           let one : length folders ≡ 1 = omega (arith, c.in_ok-folders.folders.ok.0, count, w.if-len-eq1.true) in
           let pushed : map string_bytes w.push-then-len-eq1.new.self.items
           ≡ map string_bytes c.loop-folder.names.items ++ (string_bytes w.in_ok-name_in-2.field-0 ∷ [])
-          = ap (map string_bytes) w.in_ok-push-2.ensures.items ∙ map-append string_bytes c.loop-folder.names.items (w.in_ok-name_in-2.field-0 ∷ []) in
+          = ap (map string_bytes) w.in_ok-push-2.ensures.items ∙ map-append string_bytes c.loop-folder.names.items
+          (w.in_ok-name_in-2.field-0 ∷ []) in
           let folder = w.index.result.now in
           let at : folder ≡ get_or folders 0 folder = search rules in
           let inside : w.as_str-then-len-eq1.result.now ≡ string_bytes folder = search rules in
@@ -34,6 +36,7 @@ returns c =
         folders = map string_bytes folders;
         are = c.in_ok-folders.ensures;
         is = ap (λ v. map string_bytes v.items) w.names-is ∙ names
-            ∙ in_several folders stripe (λ one. w.if-len-eq1.false (let count = c.len.ensures in omega (arith, c.in_ok-folders.folders.ok.0, count, one)));
+            ∙ in_several folders stripe (λ one. w.if-len-eq1.false (let count =
+            c.len.ensures in omega (arith, c.in_ok-folders.folders.ok.0, count, one)));
       }
     ]

@@ -11,4 +11,5 @@ returns-else-is_number c = part_not_index c.args.between.now c.args.text.now c.i
     c.is_number.ensures c.if-is_number.false
 
 pub returns-in-None : goal.returns-in-None
-returns-in-None c = part_not_between c.args.between.now c.args.text.now c.in-Some.index.now c.in-Some.rest.now c.in-Some.ensures c.in-None.ensures
+returns-in-None c = part_not_between c.args.between.now c.args.text.now c.in-Some.index.now c.in-Some.rest.now c.in-Some.ensures
+    c.in-None.ensures

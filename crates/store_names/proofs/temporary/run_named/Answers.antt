@@ -1,4 +1,5 @@
-use Rattle.std.proofs.Common.{◌≡◌, ◌∙◌, sym, ap, refl, subst, inl, inr, ℕ, ◌<◌, arith, true, List, [], ◌∷◌, ◌++◌, map, take, length, length-take}
+use Rattle.std.proofs.Common.{◌≡◌, ◌∙◌, sym, ap, refl, subst, inl, inr, ℕ, ◌<◌, arith, true, List, [], ◌∷◌, ◌++◌, map, take, length}
+use Rattle.std.proofs.Common.{length-take}
 use Rattle.std.specs.List.{list_all}
 use Rattle.std.specs.Str.{IsUtf8, chars}
 use Rattle.std.proofs.lemmas.Bool.{and_from, cases_Bool, lt-ltb, cond-true, cond-false}
