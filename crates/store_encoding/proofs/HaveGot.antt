@@ -1,5 +1,5 @@
 -- Paths that have got the files of others keep them.
-use Rattle.std.proofs.Common.{◌≡◌, inl, inr, ℕ, List, Bool, true, Option, None, option_map, refl, sym, ◌∙◌, ap}
+use Rattle.std.proofs.Common.{◌≡◌, inl, inr, ℕ, List, true, Option, None, option_map, sym, ◌∙◌, ap}
 use Rattle.folders.specs.Calls.{Answered}
 use Rattle.folders.specs.Files.{Files, under}
 use Rattle.folders.specs.Worlds.{World}

@@ -1,11 +1,10 @@
 -- The digests that are written.
-use Rattle.std.proofs.Common.{◌≡◌, ◌∙◌, refl, subst, ℕ, List, Option, Some, None, IfSome, OnOk, codes, ◌++◌, ◌∷◌}
+use Rattle.std.proofs.Common.{◌≡◌, ◌∙◌, refl, subst, sym, true≢false, ℕ, List, Option, Some, None, IfSome, IsSome, OnOk, Bool, true, false}
 use Rattle.std.specs.declared.result.Result.{Result}
 use Rattle.std.proofs.Common.{Ok, Err}
 use Rattle.folders.specs.Calls.{Answered}
 use Rattle.folders.specs.Disk.{IsOnDisk}
 use Rattle.folders.specs.Given.{IsNewAt}
-use Rattle.folders.proofs.Answers.{on_ok}
 use Rattle.store_folder.specs.Written.{Puts, PutsOne}
 use Rattle.store_folder.proofs.Written.{puts_nothing, puts_weaker}
 use Rattle.store_encoding.specs.Names.{sums_path}
@@ -26,8 +25,12 @@ pub text_held : (folder path text : List ℕ) → path ≡ sums_path folder → 
     → IfSome (Some text) (λ bytes. IsOnDisk (sums_path folder) bytes calls)
 text_held folder path text is calls held = subst (λ (p : List ℕ). IsOnDisk p text calls) is held
 
--- of an answer nothing is asked if there is none
-pub none_held : {T E : Type 0} (result : Result T E) (path : List ℕ) (calls : List Answered)
-    → OnOk result (IfSome None (λ (bytes : List ℕ). IsOnDisk path bytes calls))
-none_held (Ok x) path calls = tt
-none_held (Err e) path calls = tt
+-- of an Ok more is asked only if something has changed
+pub some_if_changed : {T E : Type 0} (result : Result T E) (text : Option (List ℕ)) (changed : Bool) → OnOk result (IsSome text)
+    → OnOk result (changed ≡ true → IsSome text)
+some_if_changed (Ok x) text changed some = λ is. some
+some_if_changed (Err e) text changed some = tt
+
+-- nothing has changed, so that no text is asked for
+pub none_if_unchanged : (text : Option (List ℕ)) (changed : Bool) → changed ≡ false → changed ≡ true → IsSome text
+none_if_unchanged text changed unchanged is = absurd (true≢false (sym is ∙ unchanged))

@@ -1,5 +1,5 @@
 -- What is said of calls that give files the names of others, which they replace.
-use Rattle.std.specs.Prelude.{◌≡◌, ◌⊎◌, ℕ, List, ◌++◌, true, false, Option, None, IsSome}
+use Rattle.std.specs.Prelude.{◌≡◌, ◌⊎◌, ℕ, List, ◌++◌, true, false, Option, None, IfSome, IsSome}
 use Rattle.folders.specs.Calls.{Answered}
 use Rattle.folders.specs.Files.{under}
 use Rattle.folders.specs.Given.{Gives, HasGot, IsAbsent, LeadThere, NothingNew, RenameOwn}
@@ -7,6 +7,8 @@ use Rattle.folders.specs.Kept.{AtEach, IsSound}
 use Rattle.folders.specs.Worlds.{World, IsLawful}
 use Rattle.store_folder.specs.Kept.{IsTemporary}
 use Rattle.store_folder.specs.Temporary.{is_temporary}
+use Rattle.store_records.specs.SumLines.{sum_lines}
+use Rattle.store_records.specs.declared.sums.Sums.{Sums}
 use Rattle.store_encoding.specs.Names.{IsFileOf, Replaces, sums_path}
 use Rattle.store_encoding.specs.declared.encoding.stripe_files.StripeFiles.{StripeFiles}
 
@@ -43,6 +45,10 @@ IsGivenTo path other calls = IsAbsent path calls ⊎ LeadThere path other calls
 -- the path of the digests gets this text, if there is one
 abbrev pub IsSums : List ℕ → Option (List ℕ) → List ℕ → Option (List ℕ) → Type 0
 IsSums folder text path content = (path ≡ sums_path folder) × (content ≡ text) × IsSome text
+
+-- the text is that of these sums, if there is one
+abbrev pub IsTextOf : Sums → Option (List ℕ) → Type 0
+IsTextOf sums text = IfSome text (λ bytes. bytes ≡ sum_lines sums)
 
 -- one of a stripe's files goes
 abbrev pub Goes : List ℕ → StripeFiles → List ℕ → Option (List ℕ) → Type 0

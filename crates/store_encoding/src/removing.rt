@@ -2,6 +2,7 @@
 //! fragments: what a run that was killed has left is a file that can still be read, or fragments that the same command removes.
 ghost use Rattle.std.specs.Prelude.{◌≡◌, ℕ, List, Option};
 ghost use Rattle.store_folder.specs.Written.{Puts};
+ghost use Rattle.store_encoding.specs.Replaced.{IsTextOf};
 ghost use Rattle.store_encoding.specs.Taken.{GoesOf, IsTakenOut, KeepsRest};
 
 use crate::encoding::sums::write_new_sums;
@@ -70,7 +71,7 @@ fn descriptions_of(
 }
 
 /// Writes the digests that are left, and takes the files of some descriptions and fragments away. Whenever that ends, each of them has what
-/// it had, or nothing, the digests' path has what it had, or all of the text, and no other path has changed but temporary ones.
+/// it had, or nothing, the digests' path has what it had, or all of their text, and no other path has changed but temporary ones.
 fn take_out<F: Folder>(
     rt: &HostRuntime,
     files: &mut F,
@@ -79,7 +80,7 @@ fn take_out<F: Folder>(
     fragments: &[String],
 ) -> Result<(), FileFault>
     ensures { (text : Option (List ℕ)) × Puts (IsTakenOut target.old.folder.now text descriptions.now fragments.now) (F.calls files.old)
-        (F.calls files.new) }
+        (F.calls files.new) × IsTextOf target.old.sums text }
 {
     write_new_sums(rt, files, target)?;
     remove_names(rt, files, target, descriptions)?;

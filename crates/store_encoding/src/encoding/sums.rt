@@ -1,9 +1,9 @@
 //! The digests in a store: the file of them that `encode` writes.
-ghost use Rattle.std.specs.Prelude.{ℕ, List, Option, OnOk, IfSome, Some};
+ghost use Rattle.std.specs.Prelude.{◌≡◌, ℕ, List, Option, OnOk, IfSome, IsSome, Some, true};
 ghost use Rattle.folders.specs.Disk.{IsOnDisk};
 ghost use Rattle.store_folder.specs.Written.{Puts, PutsOne};
 ghost use Rattle.store_encoding.specs.Names.{sums_path};
-ghost use Rattle.store_encoding.specs.Replaced.{IsSums};
+ghost use Rattle.store_encoding.specs.Replaced.{IsSums, IsTextOf};
 
 use folders::Folder;
 use std::io::{self, ErrorKind};
@@ -30,13 +30,14 @@ pub fn stored_sums(rt: &HostRuntime, folder: &str) -> Result<Sums, FileFault> {
 }
 
 /// Writes the digests of a store in place of those that are there, if there are new ones. Whenever that ends, their path has what it had,
-/// or all of one text, and no other path changes but temporary ones. Once it is done, a crash leaves the text there.
+/// or all of their text, and no other path changes but temporary ones. Once it is done, a crash leaves the text there.
 pub fn write_new_sums<F: Folder>(
     rt: &HostRuntime,
     files: &mut F,
     target: &Target<'_>,
 ) -> Result<(), FileFault>
     ensures { (text : Option (List ℕ)) × Puts (IsSums target.now.folder.now text) (F.calls files.old) (F.calls files.new)
+        × IsTextOf target.now.sums text × OnOk result (target.now.is_changed ≡ true → IsSome text)
         × OnOk result (IfSome text (λ bytes. IsOnDisk (sums_path target.now.folder.now) bytes (F.calls files.new))) }
 {
     if !target.is_changed {
@@ -53,11 +54,16 @@ fn write_sums<F: Folder>(
     sums: &Sums,
 ) -> Result<(), FileFault>
     ensures { (text : Option (List ℕ)) × Puts (IsSums folder.now text) (F.calls files.old) (F.calls files.new)
+        × IsTextOf sums.now text × OnOk result (IsSome text)
         × OnOk result (IfSome text (λ bytes. IsOnDisk (sums_path folder.now) bytes (F.calls files.new))) }
 {
     let alloc = rt.alloc();
-    let path = path_in(alloc, folder, SUMS_NAME)?;
-    let text = sums.text(alloc)?;
+    let Ok(path) = path_in(alloc, folder, SUMS_NAME) else {
+        return Err(FileFault::OutOfMemory);
+    };
+    let Ok(text) = sums.text(alloc) else {
+        return Err(FileFault::OutOfMemory);
+    };
     match write_text(rt, files, path.as_str(), text.as_slice()) {
         Ok(()) => Ok(()),
         Err(error) => Err(device(alloc, path.as_str(), error)),

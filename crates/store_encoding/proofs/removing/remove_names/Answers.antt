@@ -1,4 +1,4 @@
-use Rattle.std.proofs.Common.{◌≡◌, ◌∙◌, ap, sym, subst, ℕ, List, Bor, String, Global}
+use Rattle.std.proofs.Common.{◌∙◌, ap, sym, subst, ℕ, List, Bor, String, Global}
 use Rattle.store_folder.proofs.Written.{puts_nothing}
 use Rattle.store_encoding.specs.Names.{IsNamed, path_of}
 use Rattle.store_encoding.specs.Taken.{GoesOf}

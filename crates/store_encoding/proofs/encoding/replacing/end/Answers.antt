@@ -34,5 +34,5 @@ returns g c =
     (got_after folder c.args.begun.now c.args.replaced.now c.requires c.in_ok-write_new_sums.ensures.0
     c.forget_digests-2.new.target.folder.now same _ _ _
     c.give_all.ensures.whenever c.in_ok-write_new_sums.ensures.1 c.in_ok-give_all.ensures.got)
-    (sums_there folder c.forget_digests-2.new.target.folder.now same c.in_ok-write_new_sums.ensures.0 _ c.in_ok-write_new_sums.ensures.2)
+    (sums_there folder c.forget_digests-2.new.target.folder.now same c.in_ok-write_new_sums.ensures.0 _ c.in_ok-write_new_sums.ensures.4)
     (same_goes folder c.forget_digests-2.new.target.folder.now same c.args.begun.now _ _ c.remove_all-2.ensures)
