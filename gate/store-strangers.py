@@ -875,6 +875,12 @@ def test_files_named_like_descriptions(place, choose):
         run("encode", "--replace", store, source, *DISKS, status=0)
         hold(other.read_bytes() == text, f"{kind}: replacing the file changed it")
     other.unlink()
+    # Also a link to a description, if links are followed.
+    other.symlink_to("disk0/note.file")
+    source.write_bytes(choose.randbytes(2_005))
+    run("encode", "--replace", "--follow-links", store, source, *DISKS, status=0)
+    hold(os.readlink(other) == "disk0/note.file", "replacing the file changed a link")
+    other.unlink()
     for make in (other.mkdir, lambda: other.symlink_to(source), lambda: os.mkfifo(other), lambda: other.write_bytes(b"minutes\n")):
         make()
         before = os.lstat(other)

@@ -38,15 +38,13 @@ pub(crate) fn decode(mut room: Vec<u8>, text: &[u8]) -> Result<Option<Vec<u8>>, 
     if text.len() % 2 != 0 {
         return Ok(None);
     }
-    if text.len() < FEW_DIGITS {
-        return decode_few(room, text);
-    }
     room.resize(text.len() / 2, 0)?;
-    if decode_into(text, room.as_mut_slice()) {
-        Ok(Some(room))
+    let are_digits = if text.len() < FEW_DIGITS {
+        decode_few_into(text, room.as_mut_slice())
     } else {
-        Ok(None)
-    }
+        decode_into(text, room.as_mut_slice())
+    };
+    if are_digits { Ok(Some(room)) } else { Ok(None) }
 }
 
 /// Writes the bytes that pairs of digits write, and says whether all are digits.
@@ -63,19 +61,6 @@ fn decode_into(text: &[u8], bytes: &mut [u8]) -> bool
         greatest = greatest.max(high).max(low);
     }
     greatest < 16
-}
-
-/// The bytes of few digits, as `decode`.
-fn decode_few(mut room: Vec<u8>, text: &[u8]) -> Result<Option<Vec<u8>>, AllocError>
-    requires { length text.now % 2 ≡ 0 }
-    ensures { IfOk result (λ bytes. option_map (λ v. v.items) bytes ≡ result_ok (decode_of text.now)) }
-{
-    room.resize(text.len() / 2, 0)?;
-    if decode_few_into(text, room.as_mut_slice()) {
-        Ok(Some(room))
-    } else {
-        Ok(None)
-    }
 }
 
 /// Writes the bytes that few pairs of digits write, each digit by the table, and says whether all are digits. The loop gathers the bits

@@ -27,8 +27,8 @@ pub fn remove_stored(
         return Err(no_stored(alloc, name, target.folder)?);
     }
     let staged = staged_name(alloc, name)?;
-    let mut descriptions = descriptions_of(rt, target, name)?;
-    for description in descriptions_of(rt, target, staged.as_str())? {
+    let mut descriptions = names_of_descriptions(rt, target, name)?;
+    for description in names_of_descriptions(rt, target, staged.as_str())? {
         descriptions.push(description)?;
     }
     let mut fragments = target.names(alloc, name)?;
@@ -58,7 +58,7 @@ pub fn remove_stored(
 }
 
 /// The names of a stripe's descriptions that go with it.
-fn descriptions_of(
+fn names_of_descriptions(
     rt: &HostRuntime,
     target: &Target<'_>,
     stripe: &str,

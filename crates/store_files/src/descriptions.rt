@@ -8,7 +8,8 @@ use std::fs;
 use std::io::ErrorKind;
 use store_faults::{FileFault, device};
 use store_folder::{
-    Described, description_names, first_description_name, is_absent, path_in, read_description,
+    Described, Links, description_names, first_description_name, is_absent, path_in,
+    read_description,
 };
 
 /// What the copies of a file's description say, each once, first what most say.
@@ -105,7 +106,8 @@ pub fn own_description(
         return Ok(None);
     }
     let path = target.path(alloc, first.as_str())?;
-    match read_description(rt, path.as_str(), target.links) {
+    // A link there is no description that was made, whether links are followed or not.
+    match read_description(rt, path.as_str(), Links::NotFollowed) {
         Ok(said) => Ok(said.map(|_said| first)),
         Err(error) if is_absent(error.kind()) || error.kind() == ErrorKind::InvalidInput => {
             Ok(None)
