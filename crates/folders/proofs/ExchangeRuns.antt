@@ -6,7 +6,8 @@ use Rattle.folders.specs.Files.{Files, under, IsIn}
 use Rattle.folders.specs.Worlds.{World, IsLawful}
 use Rattle.folders.specs.Kept.{AtEach, IsSound, IsKept, AreKept, Keeps}
 use Rattle.folders.specs.Exchanged.{IsExchanged, AreExchanged, Exchanges, LeadToOne, WasAsked}
-use Rattle.folders.proofs.Runs.{at_last, each_after, each_given, each_weaker, Holds}
+use Rattle.folders.proofs.Runs.{at_last, each_after, each_both, each_given, each_weaker, Holds}
+use Rattle.folders.proofs.SeenFiles.{LeadsOn, each_leads, seen_still}
 use Rattle.std.proofs.lemmas.List.{append_assoc}
 use Rattle.folders.proofs.Exchanges.{Prepares, HasFile, IsReady, LeadFor, asked_file, file_stays, file_synced, one_settled, ready_exchanged}
 use Rattle.folders.proofs.Exchanges.{ready_first, ready_next, renamed_exchanged, renamed_sound, some_bytes}
@@ -139,22 +140,6 @@ module _ (temporary : List ℕ → Type 0) (path second : List ℕ) (not_path : 
         (subst (LeadFor path second) (sym names) (one_settled path second folder kept inside one)) renames
         (named_prepared folder true mid kept named is asked names)
 
--- no call
-pub exchanges_nothing : (temporary : List ℕ → Type 0) (written : Option (List ℕ)) (path second : List ℕ) (calls : List Answered)
-    → Exchanges temporary written path second calls calls
-exchanges_nothing temporary written path second calls = record {
-  more = [];
-  are = refl;
-  whenever = λ w sound our_path our_second lawful. (
-    sound,
-    record {
-      seen = record { at = inl refl; beside = inl refl };
-      left = record { at = inl refl; beside = inl refl };
-      others = λ p ours lasting not_first not_other. (refl, refl);
-    },
-  );
-}
-
 -- ---- an exchange, and then calls that change no path but temporary ones
 
 pub kept_same : (shown old new : Files) (path : List ℕ) → IsKept (λ p bytes. ⊥) shown old new path → under new path ≡ under old path
@@ -178,9 +163,9 @@ exchanged_then written path second shown old mid new same same_second is = recor
 module _ (temporary : List ℕ → Type 0) (written : Option (List ℕ)) (path second : List ℕ) (not_path : temporary path → ⊥)
     (not_second : temporary second → ⊥) where
   are_exchanged_then : (w : World) (old mid new : List Answered) → w.ours path ≡ true → w.ours second ≡ true
-      → AreExchanged temporary written path second w old mid → AreKept temporary (λ p bytes. ⊥) w mid new
-      → AreExchanged temporary written path second w old new
-  are_exchanged_then w old mid new our_path our_second are kept =
+      → IsSound temporary w mid → AreExchanged temporary written path second w old mid → AreKept temporary (λ p bytes. ⊥) w mid new
+      → LeadsOn temporary w mid new → AreExchanged temporary written path second w old new
+  are_exchanged_then w old mid new our_path our_second sound are kept on =
       let first = kept path our_path not_path in
       let other = kept second our_second not_second in record {
         seen = exchanged_then written path second (w.seen old) (w.seen old) (w.seen mid) (w.seen new)
@@ -194,6 +179,9 @@ module _ (temporary : List ℕ → Type 0) (written : Option (List ℕ)) (path s
               kept_same (w.seen mid) (w.seen mid) (w.seen new) p at.0 ∙ had.0,
               kept_same (w.seen mid) (w.left mid) (w.left new) p at.1 ∙ had.1,
             );
+        still = λ p ours lasting not_first not_other.
+            seen_still temporary w mid (λ q bytes. ⊥) new sound kept on p ours lasting (λ bytes none. none)
+            ∙ are.still p ours lasting not_first not_other;
       }
 
   abbrev IsAll : World → List Answered → List Answered → Type 0
@@ -214,10 +202,13 @@ module _ (temporary : List ℕ → Type 0) (written : Option (List ℕ)) (path s
             each_after (λ calls. IsLawful w calls → IsAll w old calls) later more old each
             (each_given w (IsAll w old) later (more ++ old) (λ lawful.
             let mid = at_last (λ calls. IsLawful w calls → IsAll w old calls) more old each lawful in
-            each_weaker (λ calls. IsLawful w calls → Holds temporary (λ p bytes. ⊥) w (more ++ old) calls)
+            each_weaker (λ calls. (IsLawful w calls → Holds temporary (λ p bytes. ⊥) w (more ++ old) calls)
+            × (IsLawful w calls → LeadsOn temporary w (more ++ old) calls))
             (λ calls. IsLawful w calls → IsAll w old calls)
-            (λ calls holds so. let found = holds so in (
+            (λ calls holds so. let found = holds.0 so in (
               found.0,
-              are_exchanged_then w old (more ++ old) calls our_path our_second mid.1 found.1,
-            )) later (more ++ old) (again w mid.0)));
+              are_exchanged_then w old (more ++ old) calls our_path our_second mid.0 mid.1 found.1 (holds.1 so),
+            )) later (more ++ old) (each_both (λ calls. IsLawful w calls → Holds temporary (λ p bytes. ⊥) w (more ++ old) calls)
+            (λ calls. IsLawful w calls → LeadsOn temporary w (more ++ old) calls) later (more ++ old) (again w mid.0)
+            (each_leads temporary w (more ++ old) later quiet.takes))));
       }

@@ -221,6 +221,14 @@ module _ (temporary : List ℕ → Type 0) (path second : List ℕ) (w : World) 
       beside = beside at_second;
     }
 
+  -- the file that is seen at a path that leads where it led has what a crash left of it
+  still_at : (calls : List Answered) → AreClosed temporary w before (w.seen before)
+      → ((f : ℕ) → is_closed f before ≡ true → (w.left calls).bytes f ≡ (w.left before).bytes f) → (p : List ℕ) → w.ours p ≡ true
+      → (temporary p → ⊥) → (w.seen calls).named p ≡ (w.seen before).named p
+      → seen_at (w.seen calls) (w.left calls) p ≡ seen_at (w.seen before) (w.left before) p
+  still_at calls in_seen bytes p ours lasting same = ap (λ (o : Option ℕ). option_map (w.left calls).bytes o) same
+      ∙ same_map (w.left calls).bytes (w.left before).bytes ((w.seen before).named p) (λ f at. bytes f (in_seen p f ours lasting at))
+
   -- before the path is given away
   pub ready_exchanged : (written : Option (List ℕ)) (calls : List Answered) → IsSound temporary w before
       → IsReady temporary path second w before calls → AreExchanged temporary written path second w before calls
@@ -235,6 +243,8 @@ module _ (temporary : List ℕ → Type 0) (path second : List ℕ) (w : World) 
       had written (w.seen before) (w.left before) (w.left calls) sound.left sound.seen (λ f closed. (ready.bytes f closed).1.1)
           p ours lasting (ready.left p ours other),
     );
+    still = λ p ours lasting not_first other. still_at calls sound.seen (λ f closed. (ready.bytes f closed).1.1) p ours lasting
+        (ready.seen p ours other);
   }
 
   -- ---- the new file gets the path
@@ -317,6 +327,8 @@ module _ (temporary : List ℕ → Type 0) (path second : List ℕ) (w : World) 
         had written (w.seen before) (w.left before) (w.left next) first_sound.left first_sound.seen (λ f was. (stays f was).1.1)
             p ours lasting (other_named (w.left calls) (w.left next) step.left p ours lasting not_path_here ∙ ready.left p ours other),
       );
+      still = λ p ours lasting not_path_here other. still_at next first_sound.seen (λ f was. (stays f was).1.1) p ours lasting
+          (other_named (w.seen calls) (w.seen next) step.seen p ours lasting not_path_here ∙ ready.seen p ours other);
     }
 
 pub not_on : (b : Bool) → b ≡ false → b ≡ true → ⊥

@@ -1,4 +1,6 @@
 pub mod Answers
+pub mod ChangeRuns
+pub mod Changing
 pub mod ExchangeRuns
 pub mod Exchanges
 pub mod GivenAfter
@@ -8,5 +10,6 @@ pub mod LastNames
 pub mod Links
 pub mod NewFiles
 pub mod Runs
+pub mod SeenFiles
 pub mod Staying
 pub mod Steps

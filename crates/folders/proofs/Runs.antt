@@ -40,6 +40,12 @@ module _ (P : List Answered → Type 0) where
     each_after later more old each each_later.1,
   )
 
+-- what holds of each front, and what holds of each too
+pub each_both : (P Q : List Answered → Type 0) (more old : List Answered) → AtEach P more old → AtEach Q more old
+    → AtEach (λ calls. P calls × Q calls) more old
+each_both P Q [] old first second = (first, second)
+each_both P Q (call ∷ more) old first second = ((first.0, second.0), each_both P Q more old first.1 second.1)
+
 -- what holds of each front of a run if what was before it is lawful, holds of each that is lawful
 pub each_given : (w : World) (P : List Answered → Type 0) (later mid : List Answered)
     → (IsLawful w mid → AtEach (λ calls. IsLawful w calls → P calls) later mid) → AtEach (λ calls. IsLawful w calls → P calls) later mid

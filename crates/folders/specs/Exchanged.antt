@@ -22,13 +22,16 @@ pub record IsExchanged (written : Option (List ℕ)) (path second : List ℕ) (s
   pub at : (under new path ≡ under old path) ⊎ HasNew written path second shown old new
   pub beside : (under new second ≡ under old second) ⊎ ((shown.named second ≡ None) × (under new second ≡ seen_at shown old path))
 
--- so it is of what is seen and of what a crash leaves, and each other path of ours that isn't temporary has what it had
+-- So it is of what is seen and of what a crash leaves. Each other path of ours that isn't temporary has what it had, and the file that is
+-- seen there has what a crash left of it before.
 pub record AreExchanged (temporary : List ℕ → Type 0) (written : Option (List ℕ)) (path second : List ℕ) (w : World)
     (before calls : List Answered) : Type 0 where
   pub seen : IsExchanged written path second (w.seen before) (w.seen before) (w.seen calls)
   pub left : IsExchanged written path second (w.seen before) (w.left before) (w.left calls)
   pub others : (p : List ℕ) → w.ours p ≡ true → (temporary p → ⊥) → p ≢ path → p ≢ second
       → (under (w.seen calls) p ≡ under (w.seen before) p) × (under (w.left calls) p ≡ under (w.left before) p)
+  pub still : (p : List ℕ) → w.ours p ≡ true → (temporary p → ⊥) → p ≢ path → p ≢ second
+      → seen_at (w.seen calls) (w.left calls) p ≡ seen_at (w.seen before) (w.left before) p
 
 -- so it is whenever the run from the old calls to the new ones ends, by a crash or by itself
 pub record Exchanges (temporary : List ℕ → Type 0) (written : Option (List ℕ)) (path second : List ℕ) (old new : List Answered)

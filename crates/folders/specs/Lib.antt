@@ -1,4 +1,5 @@
 pub mod Calls
+pub mod Changed
 pub mod Disk
 pub mod Exchanged
 pub mod Files

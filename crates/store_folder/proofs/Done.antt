@@ -1,5 +1,5 @@
 -- Names that are written to the disk.
-use Rattle.std.proofs.Common.{◌≡◌, ◌⊎◌, inl, inr, ℕ, List, [], ◌∷◌, ◌++◌, Bool, true, false, ap, sym, subst, ◌∙◌, string_bytes}
+use Rattle.std.proofs.Common.{◌≡◌, ◌⊎◌, inl, inr, ℕ, List, [], ◌∷◌, ◌++◌, true, false, sym, subst, string_bytes}
 use Rattle.std.specs.Str.{bytes_eq}
 use Rattle.std.specs.List.{list_any}
 use Rattle.std.proofs.Common.{String, Global}
@@ -14,7 +14,6 @@ use Rattle.folders.specs.Disk.{HasWhole, IsOnDisk}
 use Rattle.folders.specs.Kept.{Keeps}
 use Rattle.folders.proofs.Staying.{has_whole_over, on_disk_over, refused_over, settled}
 use Rattle.std.specs.Prelude.{IsSome, IsSomeAnd}
-use Rattle.lrc_code.specs.declared.places.Place.{Place}
 use Rattle.store_folder.specs.declared.site.Site.{Site}
 use Rattle.store_folder.specs.Done.{HasFolderOf, HaveFoldersOf, IsDue, IsNamed, IsSettled}
 use Rattle.store_folder.specs.Kept.{IsTemporary, KeepsEach}

@@ -1,10 +1,10 @@
 -- Runs of a store's calls, one after another.
-use Rattle.std.proofs.Common.{◌≡◌, inl, inr, ◌⊎◌, ℕ, List, [], ◌∷◌, ◌++◌, Bool, subst, sym}
-use Rattle.folders.specs.Calls.{Call, Answered, make, sync, link, link_again, rename, rename_again, remove, sync_folder, same_file, absent}
+use Rattle.std.proofs.Common.{◌≡◌, inr, ℕ, List, [], ◌∷◌, ◌++◌, subst, sym}
+use Rattle.folders.specs.Calls.{Answered, make, sync, link, link_again, rename, rename_again, remove, sync_folder, same_file, absent}
 use Rattle.folders.specs.Kept.{Keeps}
 use Rattle.folders.specs.Placed.{WasSynced}
 use Rattle.folders.proofs.Runs.{keeps_after, keeps_weaker}
-use Rattle.std.proofs.Common.{Option, Some, ◌∙◌}
+use Rattle.std.proofs.Common.{Option, ◌∙◌}
 use Rattle.folders.specs.Placed.{IsGiven}
 use Rattle.lrc_code.specs.declared.places.Place.{Place}
 use Rattle.store_repair.specs.Kept.{Given}

@@ -1,5 +1,7 @@
+pub mod Changed
 pub mod Digests
 pub mod Done
+pub mod GoingOn
 pub mod Kept
 pub mod Replaced
 pub mod Temporary

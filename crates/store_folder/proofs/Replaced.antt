@@ -1,5 +1,5 @@
 -- A fragment that is replaced.
-use Rattle.std.proofs.Common.{◌≡◌, ◌∙◌, ◌⊎◌, ◌+◌, ap, sym, inl, inr, arith, length-append, ℕ, List, ◌++◌, length, true, false, Option}
+use Rattle.std.proofs.Common.{◌≡◌, ◌∙◌, ◌⊎◌, ◌+◌, ap, inl, inr, arith, length-append, ℕ, List, length, false, Option}
 use Rattle.std.proofs.Common.{Some, None, IfSome}
 use Rattle.std.specs.Prelude.{codes}
 use Rattle.std.proofs.Common.{String, Global}
@@ -7,8 +7,9 @@ use Rattle.folders.specs.Calls.{Answered}
 use Rattle.lrc_code.specs.declared.places.Place.{Place}
 use Rattle.store_folder.specs.declared.site.Site.{Site}
 use Rattle.folders.specs.Placed.{HasPath}
-use Rattle.folders.proofs.ExchangeRuns.{exchanges_nothing, exchanges_then}
+use Rattle.folders.proofs.ExchangeRuns.{exchanges_then}
 use Rattle.folders.proofs.Exchanges.{not_on}
+use Rattle.folders.proofs.Runs.{keeps_after, keeps_all}
 use Rattle.store_folder.specs.Done.{HasFolderOf, IsDue}
 use Rattle.store_folder.specs.Kept.{IsPathOf, IsTemporary, KeepsEach}
 use Rattle.store_folder.specs.Replaced.{ReplacesIn, ReplacesOne, second_path}
@@ -21,15 +22,20 @@ apart path same =
 
 -- nothing was called
 pub replaces_nothing : (path : List ℕ) (written : Option (List ℕ)) (calls : List Answered) → ReplacesOne path written calls calls
-replaces_nothing path written calls = exchanges_nothing IsTemporary written path (second_path path) calls
+replaces_nothing path written calls = inl (keeps_all IsTemporary (λ p bytes. ⊥) calls)
 
 -- what was called then changes no path but temporary ones
 pub replaces_then : (path second : List ℕ) (written : Option (List ℕ)) (old mid new : List Answered) → is_temporary path ≡ false
     → second ≡ second_path path → is_temporary second ≡ false → ReplacesOne path written old mid → KeepsEach mid new
     → ReplacesOne path written old new
-replaces_then path second written old mid new lasting is free first quiet = exchanges_then IsTemporary written path (second_path path)
-    (not_on (is_temporary path) lasting) (not_on (is_temporary (second_path path)) (ap is_temporary (sym is) ∙ free)) old mid new first
-    quiet
+replaces_then path second written old mid new lasting is free (inl kept) quiet =
+    inl (keeps_after IsTemporary (λ p bytes. ⊥) old mid new kept quiet)
+replaces_then path second written old mid new lasting is free (inr first) quiet = inr (record {
+  some = first.some;
+  lasting = first.lasting;
+  exchanges = exchanges_then IsTemporary written path (second_path path) (not_on (is_temporary path) lasting)
+      (not_on (is_temporary (second_path path)) first.lasting) old mid new first.exchanges quiet;
+})
 
 -- the path that was given is still to be written to the disk
 pub given_due : (path : List ℕ) (written : Option (List ℕ)) (folders : List (String Global)) (calls : List Answered)

@@ -1,5 +1,8 @@
+pub mod Changed
+pub mod ChangedOver
 pub mod Digests
 pub mod Done
+pub mod GoingOn
 pub mod Kept
 pub mod Replaced
 pub mod Stays

@@ -1,5 +1,5 @@
 -- What the calls of a store that replace a fragment leave, whenever they end.
-use Rattle.std.specs.Prelude.{◌≡◌, ◌⊎◌, ℕ, List, ◌++◌, false, Option, codes}
+use Rattle.std.specs.Prelude.{◌≡◌, ◌⊎◌, ℕ, List, ◌++◌, false, Option, IsSome, codes}
 use Rattle.folders.specs.Calls.{Answered}
 use Rattle.folders.specs.Exchanged.{Exchanges}
 use Rattle.lrc_code.specs.declared.places.Place.{Place}
@@ -13,8 +13,14 @@ second_path path = path ++ codes ".damaged"
 
 -- The path of a fragment has what it had, or all that was written to the new file, and then what was there is at its second path, where
 -- nothing was. Each other path but temporary ones has what it had.
+pub record ExchangesOne (path : List ℕ) (written : Option (List ℕ)) (old new : List Answered) : Type 0 where
+  pub some : IsSome written
+  pub lasting : is_temporary (second_path path) ≡ false
+  pub exchanges : Exchanges IsTemporary written path (second_path path) old new
+
+-- or no path but temporary ones changes
 abbrev pub ReplacesOne : List ℕ → Option (List ℕ) → List Answered → List Answered → Type 0
-ReplacesOne path written old new = Exchanges IsTemporary written path (second_path path) old new
+ReplacesOne path written old new = KeepsEach old new ⊎ ExchangesOne path written old new
 
 -- so it is of the path of a stripe's fragment at a place
 pub record Replaces (site : Site) (stripe : List ℕ) (place : Place) (written : Option (List ℕ)) (old new : List Answered) : Type 0 where

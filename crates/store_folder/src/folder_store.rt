@@ -3,6 +3,8 @@ ghost use Rattle.std.specs.Prelude.{◌≡◌, ◌⊎◌, [], true, false, ℕ, 
 ghost use Rattle.folders.specs.Disk.{IsOnDisk};
 ghost use Rattle.folders.specs.Files.{IsIn};
 ghost use Rattle.folders.specs.Placed.{WasRefused};
+ghost use Rattle.store_folder.specs.Changed.{IsChangedIn};
+ghost use Rattle.store_folder.specs.ChangedOver.{changed_over, none_changed_in};
 ghost use Rattle.store_folder.specs.Digests.{HasSum, IsAsListed};
 ghost use Rattle.store_folder.specs.Done.{HasFolderOf, HaveFoldersOf, IsDue, IsNamed, IsSettled};
 ghost use Rattle.store_folder.specs.Kept.{GivesIn, GivesOne, IsKeptIn, IsPathOf, KeepsEach, none_kept};
@@ -318,11 +320,19 @@ impl<F: Folder> Store for FolderStore<'_, F> {
 
     ghost kept_same = { λ stripe given s. none_kept stripe given s.site (F.calls s.files) };
 
+    ghost changed = { λ stripe given old new. IsChangedIn stripe given old.site new.site (F.calls old.files)
+        (F.calls new.files) };
+
+    ghost changed_same = { λ stripe s. none_changed_in stripe s.site (F.calls s.files) };
+
     ghost got_name = { λ s stripe place written. IsNamed s.site stripe place written s.touched.folders.items (F.calls s.files) };
 
     ghost settled = { λ s stripe place written. IsSettled s.site stripe place written (F.calls s.files) };
 
     ghost new_shown = { λ s f h. never h };
+
+    ghost changed_then = { λ stripe given more all old mid new leads widens changes keeps. changed_over stripe given more all old.site
+        mid.site new.site (F.calls old.files) (F.calls mid.files) (F.calls new.files) leads widens changes keeps };
 
     ghost settled_stays = { λ stripe given old new kept. settled_over stripe given old.site new.site (F.calls old.files)
         (F.calls new.files) kept };

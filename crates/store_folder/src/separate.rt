@@ -1,6 +1,8 @@
 //! A store in a folder in which each new fragment fails by itself: one that can't be made or written is refused when it is to get its name,
 //! so that the others of its stripe get theirs.
 ghost use Rattle.std.specs.Prelude.{◌≡◌, IfSome};
+ghost use Rattle.store_folder.specs.Changed.{IsChangedIn};
+ghost use Rattle.store_folder.specs.ChangedOver.{changed_over, none_changed_in};
 ghost use Rattle.store_folder.specs.Digests.{HasSum};
 ghost use Rattle.store_folder.specs.Done.{IsNamed, IsSettled};
 ghost use Rattle.store_folder.specs.Kept.{IsKeptIn, KeepsEach, none_kept};
@@ -107,12 +109,21 @@ impl<F: Folder> Store for SeparateStore<'_, F> {
 
     ghost kept_same = { λ stripe given s. none_kept stripe given s.store.site (F.calls s.store.files) };
 
+    ghost changed = { λ stripe given old new. IsChangedIn stripe given old.store.site new.store.site (F.calls old.store.files)
+        (F.calls new.store.files) };
+
+    ghost changed_same = { λ stripe s. none_changed_in stripe s.store.site (F.calls s.store.files) };
+
     ghost got_name = { λ s stripe place written. IsNamed s.store.site stripe place written s.store.touched.folders.items
         (F.calls s.store.files) };
 
     ghost settled = { λ s stripe place written. IsSettled s.store.site stripe place written (F.calls s.store.files) };
 
     ghost new_shown = { λ s f h. never h };
+
+    ghost changed_then = { λ stripe given more all old mid new leads widens changes keeps. changed_over stripe given more all
+        old.store.site mid.store.site new.store.site (F.calls old.store.files) (F.calls mid.store.files) (F.calls new.store.files)
+        leads widens changes keeps };
 
     ghost settled_stays = { λ stripe given old new kept. settled_over stripe given old.store.site new.store.site (F.calls old.store.files)
         (F.calls new.store.files) kept };

@@ -17,6 +17,7 @@ pub mod ScrubLemmas
 pub mod LengthLemmas
 pub mod CombiningLemmas
 pub mod FileLemmas
+pub mod GivenLemmas
 pub mod ReadingLemmas
 pub mod EncodingLemmas
 pub mod MemoryLemmas

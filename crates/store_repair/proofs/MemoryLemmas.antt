@@ -8,7 +8,9 @@ use Rattle.lrc_code.specs.declared.places.Place.{Place}
 use Rattle.lrc_code.specs.Places.{same_place}
 use Rattle.lrc_code.proofs.PlaceSums.{same_place-eq, same_place-refl}
 use Rattle.std.specs.declared.io.Error.{Error}
+use Rattle.store_repair.specs.Changed.{ChangesOrHas, GivesOneMore}
 use Rattle.store_repair.specs.Kept.{Given, HasBytes, KeepsOrHas, StaysOver}
+use Rattle.store_repair.proofs.GivenLemmas.{more_are, more_off, more_on, one_more}
 use Rattle.store_repair.specs.Memory.{ExchangesName, GivesName, put_name, with_fragment, with_kept, with_old}
 use Rattle.store_repair.specs.Store.{AreUntouched, Files, HasName, IsUntouched, KeepsAll, Names, SameElsewhere}
 use Rattle.store_repair.specs.declared.store.Placed.{Placed as PlacedName}
@@ -123,7 +125,10 @@ still t q s given from old new is (inl same) = inl (is ∙ same)
 still t q s given from old new is (inr had) = inr (had.0, had.1, (had.2.0, had.2.1, is ∙ had.2.2))
 
 kept_given : (s : List ℕ) (p : Place) (bytes : List ℕ) (given : Given) (from old : Files) → old.fragments s p ≡ None
-    → given p ≡ Some bytes → KeepsOrHas s given from old → KeepsOrHas s given from (with_fragment old s p bytes)
+    → given p ≡ Some bytes → KeepsOrHas s given from old → (t : List ℕ) (q : Place)
+    → ((with_fragment old s p bytes).fragments t q ≡ from.fragments t q)
+    ⊎ ((bytes_eq s t ≡ true) × (from.fragments t q ≡ None)
+    × ((b : List ℕ) × (given q ≡ Some b) × ((with_fragment old s p bytes).fragments t q ≡ Some b)))
 kept_given s p bytes given from old none is before t q = elim (cases_Bool (bytes_eq s t && same_place p q)) [
   | inl on ↦ (let parts = and_parts (bytes_eq s t) (same_place p q) on in
       let stripe = (bytes_eq-Decides s t).0 parts.0 in
@@ -131,17 +136,20 @@ kept_given s p bytes given from old none is before t q = elim (cases_Bool (bytes
       inr (
         parts.0,
         had_none t q s given from old (subst (λ u. old.fragments u q ≡ None) stripe
-            (subst (λ r. old.fragments s r ≡ None) place none)) (before t q),
+            (subst (λ r. old.fragments s r ≡ None) place none)) (before.names t q),
         (bytes, subst (λ r. given r ≡ Some bytes) place is, rw on refl),
       ))
   | inr off ↦ still t q s given from old (with_fragment old s p bytes)
-      (taken old.fragments s p bytes (bytes_eq s t && same_place p q) (Some bytes) (old.fragments t q) off) (before t q)
+      (taken old.fragments s p bytes (bytes_eq s t && same_place p q) (Some bytes) (old.fragments t q) off) (before.names t q)
 ]
 
 pub given_kept : (r : Result PlacedName Error) (s : List ℕ) (p : Place) (bytes : List ℕ) (given : Given) (from old new : Files)
     → GivesName r s p bytes old new → given p ≡ Some bytes → KeepsOrHas s given from old → KeepsOrHas s given from new
 given_kept (Ok placed.Placed) s p bytes given from old new (none, are) is before =
-    subst (KeepsOrHas s given from) (sym are) (kept_given s p bytes given from old none is before)
+    subst (KeepsOrHas s given from) (sym are) (record {
+      names = kept_given s p bytes given from old none is before;
+      seconds = before.seconds;
+    })
 given_kept (Ok placed.IsThere) s p bytes given from old new (there, are) is before = subst (KeepsOrHas s given from) (sym are) before
 given_kept (Err e) s p bytes given from old new are is before = subst (KeepsOrHas s given from) (sym are) before
 
@@ -187,3 +195,136 @@ exchanged_placed (Ok placed.Placed) s p bytes old new (none, is) =
     ap (λ (f : Files). f.fragments s p) is ∙ put_own (with_old old s p (old.fragments s p)).fragments s p bytes
 exchanged_placed (Ok placed.IsThere) s p bytes old new so = tt
 exchanged_placed (Err e) s p bytes old new so = tt
+
+-- ---- names that were exchanged or given, one after the other
+
+-- an exchange at a place that was given nothing before
+module _ (s : List ℕ) (p : Place) (bytes : List ℕ) (given : Given) (from old : Files) (fresh : given p ≡ None)
+    (changes : ChangesOrHas s given from old) where
+  abbrev after : Given
+  after = one_more given p (Some bytes)
+
+  same_name : old.fragments s p ≡ from.fragments s p
+  same_name = elim (changes.names s p) as (λ _. old.fragments s p ≡ from.fragments s p) [
+    | inl same ↦ same
+    | inr has ↦ absurd (let both : None ≡ Some has.1.0 = sym fresh ∙ has.1.1 in cc)
+  ]
+
+  same_second : old.kept s p ≡ from.kept s p
+  same_second = elim (changes.seconds s p) as (λ _. old.kept s p ≡ from.kept s p) [
+    | inl same ↦ same
+    | inr got ↦ absurd (let both : None ≡ Some got.2.0 = sym fresh ∙ got.2.1 in cc)
+  ]
+
+  -- what was given before at other names
+  still_given : (t : List ℕ) (q : Place) (b : List ℕ) → bytes_eq s t ≡ true → (bytes_eq s t && same_place p q) ≡ false
+      → given q ≡ Some b → after q ≡ Some b
+  still_given t q b stripe off is = more_off given p (Some bytes) q (sym (ap (λ x. x && same_place p q) stripe) ∙ off) ∙ is
+
+  abbrev IsName : Files → List ℕ → Place → Type 0
+  IsName new t q = (new.fragments t q ≡ from.fragments t q)
+      ⊎ ((bytes_eq s t ≡ true) × ((b : List ℕ) × (after q ≡ Some b) × (new.fragments t q ≡ Some b)
+      × ((from.fragments t q ≡ None) ⊎ (new.kept t q ≡ from.fragments t q))))
+
+  abbrev IsSecond : Files → List ℕ → Place → Type 0
+  IsSecond new t q = (new.kept t q ≡ from.kept t q) ⊎ ((bytes_eq s t ≡ true)
+      × (from.kept t q ≡ None) × ((b : List ℕ) × (after q ≡ Some b)) × (new.kept t q ≡ from.fragments t q))
+
+  -- at other names all is as it was
+  name_off : (new : Files) (t : List ℕ) (q : Place) → (bytes_eq s t && same_place p q) ≡ false → new.fragments t q ≡ old.fragments t q
+      → new.kept t q ≡ old.kept t q → IsName new t q
+  name_off new t q off same second = elim (changes.names t q) as (λ _. IsName new t q) [
+    | inl had ↦ inl (same ∙ had)
+    | inr has ↦ inr (
+      has.0,
+      (
+        has.1.0,
+        still_given t q has.1.0 has.0 off has.1.1,
+        same ∙ has.1.2,
+        elim has.1.3 as (λ _. (from.fragments t q ≡ None) ⊎ (new.kept t q ≡ from.fragments t q)) [
+          | inl none ↦ inl none
+          | inr kept ↦ inr (second ∙ kept)
+        ],
+      ),
+    )
+  ]
+
+  second_off : (new : Files) (t : List ℕ) (q : Place) → (bytes_eq s t && same_place p q) ≡ false → new.kept t q ≡ old.kept t q
+      → IsSecond new t q
+  second_off new t q off same = elim (changes.seconds t q) as (λ _. IsSecond new t q) [
+    | inl had ↦ inl (same ∙ had)
+    | inr got ↦ inr (got.0, got.1, (got.2.0, still_given t q got.2.0 got.0 off got.2.1), same ∙ got.3)
+  ]
+
+  -- something may have been there
+  changed_at : (o : Option (List ℕ)) → old.fragments s p ≡ o → old.kept s p ≡ None
+      → ChangesOrHas s after from (with_fragment (with_old old s p o) s p bytes)
+  changed_at None is free = let new = with_fragment old s p bytes in record {
+    names = λ t q. elim (cases_Bool (bytes_eq s t && same_place p q)) as (λ _. IsName new t q) [
+      | inl on ↦ (let parts = and_parts (bytes_eq s t) (same_place p q) on in
+          subst (λ u. IsName new u q) ((bytes_eq-Decides s t).0 parts.0) (subst (IsName new s) (same_place-eq p q parts.1)
+          (inr (
+            (bytes_eq-Decides s s).1 refl,
+            (
+              bytes,
+              more_on given p (Some bytes),
+              put_own old.fragments s p bytes,
+              inl (sym same_name ∙ is),
+            ),
+          ))))
+      | inr off ↦ name_off new t q off
+          (taken old.fragments s p bytes (bytes_eq s t && same_place p q) (Some bytes) (old.fragments t q) off) refl
+    ];
+    seconds = λ t q. elim (cases_Bool (bytes_eq s t && same_place p q)) as (λ _. IsSecond new t q) [
+      | inl on ↦ (let parts = and_parts (bytes_eq s t) (same_place p q) on in
+          subst (λ u. IsSecond new u q) ((bytes_eq-Decides s t).0 parts.0) (subst (IsSecond new s) (same_place-eq p q parts.1)
+          (inl same_second)))
+      | inr off ↦ second_off new t q off refl
+    ];
+  }
+  changed_at (Some was) is free = let new = with_fragment (with_kept old s p was) s p bytes in record {
+    names = λ t q. elim (cases_Bool (bytes_eq s t && same_place p q)) as (λ _. IsName new t q) [
+      | inl on ↦ (let parts = and_parts (bytes_eq s t) (same_place p q) on in
+          subst (λ u. IsName new u q) ((bytes_eq-Decides s t).0 parts.0) (subst (IsName new s) (same_place-eq p q parts.1)
+          (inr (
+            (bytes_eq-Decides s s).1 refl,
+            (
+              bytes,
+              more_on given p (Some bytes),
+              put_own old.fragments s p bytes,
+              inr (put_own old.kept s p was ∙ sym is ∙ same_name),
+            ),
+          ))))
+      | inr off ↦ name_off new t q off
+          (taken old.fragments s p bytes (bytes_eq s t && same_place p q) (Some bytes) (old.fragments t q) off)
+          (taken old.kept s p was (bytes_eq s t && same_place p q) (Some was) (old.kept t q) off)
+    ];
+    seconds = λ t q. elim (cases_Bool (bytes_eq s t && same_place p q)) as (λ _. IsSecond new t q) [
+      | inl on ↦ (let parts = and_parts (bytes_eq s t) (same_place p q) on in
+          subst (λ u. IsSecond new u q) ((bytes_eq-Decides s t).0 parts.0) (subst (IsSecond new s) (same_place-eq p q parts.1)
+          (inr (
+            (bytes_eq-Decides s s).1 refl,
+            sym same_second ∙ free,
+            (bytes, more_on given p (Some bytes)),
+            put_own old.kept s p was ∙ sym is ∙ same_name,
+          ))))
+      | inr off ↦ second_off new t q off (taken old.kept s p was (bytes_eq s t && same_place p q) (Some was) (old.kept t q) off)
+    ];
+  }
+
+  unchanged_there : (new : Files) → new ≡ old → GivesOneMore ChangesOrHas s given p (Some bytes) from new
+  unchanged_there new is = record {
+    after = given;
+    are = λ q. inl refl;
+    changes = subst (ChangesOrHas s given from) (sym is) changes;
+  }
+
+  pub exchanged_changed : (r : Result PlacedName Error) (new : Files) → ExchangesName r s p bytes old new
+      → GivesOneMore ChangesOrHas s given p (Some bytes) from new
+  exchanged_changed (Ok placed.Placed) new (none, is) = record {
+    after = after;
+    are = more_are given p (Some bytes);
+    changes = subst (ChangesOrHas s after from) (sym is) (changed_at (old.fragments s p) refl none);
+  }
+  exchanged_changed (Ok placed.IsThere) new (there, is) = unchanged_there new is
+  exchanged_changed (Err e) new is = unchanged_there new is

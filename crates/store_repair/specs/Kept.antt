@@ -21,6 +21,10 @@ given_by shown [] made p = None
 given_by shown (place ∷ places) [] p = None
 given_by shown (place ∷ places) (file ∷ made) p = if same_place place p then shown file else given_by shown places made p
 
+-- what is given to one place
+abbrev pub given_at : Place → Option (List ℕ) → Given
+given_at place bytes p = if same_place place p then bytes else None
+
 -- where the files are shown, all that is given are bytes that are the only ones that fit fragments of the stripe that were there
 abbrev pub FitOnly : CodeName → List ℕ → ShownFiles → Given → Type 0
 FitOnly code stripe None given = Unit {0}
@@ -28,16 +32,16 @@ FitOnly code stripe (Some old) given =
     (p : Place) → IfSome (given p) (λ bytes. (survives : Place → Bool) × (len : ℕ) × ((q : Place) × (survives q ≡ true))
     × IsOnlyOne code survives len stripe old p bytes)
 
--- each name has what it had, or, if nothing was there, what it was given
-abbrev pub KeepsOrHas : List ℕ → Given → Files → Files → Type 0
-KeepsOrHas stripe given old new =
-    (s : List ℕ) (p : Place) → (new.fragments s p ≡ old.fragments s p)
-    ⊎ ((bytes_eq stripe s ≡ true) × (old.fragments s p ≡ None)
-    × ((bytes : List ℕ) × (given p ≡ Some bytes) × (new.fragments s p ≡ Some bytes)))
+-- Each name has what it had, or, if nothing was there, what it was given. Each second name has what it had.
+pub record KeepsOrHas (stripe : List ℕ) (given : Given) (old : Files) (new : Files) : Type 0 where
+  pub names : (s : List ℕ) (p : Place) → (new.fragments s p ≡ old.fragments s p)
+      ⊎ ((bytes_eq stripe s ≡ true) × (old.fragments s p ≡ None)
+      × ((bytes : List ℕ) × (given p ≡ Some bytes) × (new.fragments s p ≡ Some bytes)))
+  pub seconds : (s : List ℕ) (p : Place) → new.kept s p ≡ old.kept s p
 
 -- where nothing is given, each name has what it had
 pub unchanged : (stripe : List ℕ) (given : Given) (files : Files) → KeepsOrHas stripe given files files
-unchanged stripe given files s p = inl refl
+unchanged stripe given files = record { names = λ s p. inl refl; seconds = λ s p. refl }
 
 -- what was so of stripes' fragments and their bytes is so afterwards
 abbrev pub StaysOver : (List ℕ → Place → Option (List ℕ) → Type 0) → (List ℕ → Place → Option (List ℕ) → Type 0) → Type 0
@@ -50,7 +54,7 @@ HasBytes files stripe place shown = (bytes : List ℕ) × (shown ≡ Some bytes)
 -- a name that has bytes has them where each name has what it had
 pub still_has : (stripe : List ℕ) (given : Given) (old new : Files) → KeepsOrHas stripe given old new
     → StaysOver (HasBytes old) (HasBytes new)
-still_has stripe given old new keeps s p shown has = elim (keeps s p) [
+still_has stripe given old new keeps s p shown has = elim (keeps.names s p) [
   | inl same ↦ (has.0, has.1, same ∙ has.2)
   | inr was ↦ absurd (let none : None ≡ Some has.0 = sym was.1 ∙ has.2 in cc)
 ]

@@ -1,6 +1,7 @@
 pub mod Shown
 pub mod Windows
 pub mod Mended
+pub mod Changed
 pub mod Damage
 pub mod Store
 pub mod Losses

@@ -1,6 +1,7 @@
 //! A store in memory.
 ghost use Rattle.std.specs.Prelude.{◌≡◌, ◌<◌, List, ℕ, IfOk, None, OnErr, OnOk, Some, drop, find, option_copied, option_map};
 ghost use Rattle.std.specs.Prelude.{false, refl, true, vec_len};
+ghost use Rattle.store_repair.specs.Changed.{ChangesOrHas, GivesOneMore, changed_kept, none_changed};
 ghost use Rattle.store_repair.specs.Kept.{Given, HasBytes, KeepsOrHas, StaysOver, still_has, unchanged};
 ghost use Rattle.lrc_code.specs.Code.{AreBytes};
 ghost use Rattle.lrc_code.specs.declared.places.Place.{Place};
@@ -208,11 +209,18 @@ impl Store for MemoryStore {
 
     ghost kept_same = { λ stripe given s. unchanged stripe given (files_of s) };
 
+    ghost changed = { λ stripe given old new. ChangesOrHas stripe given (files_of old) (files_of new) };
+
+    ghost changed_same = { λ stripe s. none_changed stripe (files_of s) };
+
     ghost got_name = { λ s. HasBytes (files_of s) };
 
     ghost settled = { λ s. HasBytes (files_of s) };
 
     ghost new_shown = { λ s f h. refl };
+
+    ghost changed_then = { λ stripe given more all old mid new leads widens changes keeps. changed_kept stripe given more all (files_of old)
+        (files_of mid) (files_of new) leads widens changes keeps };
 
     ghost settled_stays = { λ stripe given old new keeps. still_has stripe given (files_of old) (files_of new) keeps };
 
@@ -275,6 +283,9 @@ impl Store for MemoryStore {
         ensures untouched { AreUntouched true stripe.now (Some (files_of self.old)) (Some (files_of self.new)) }
         ensures elsewhere { SameElsewhere stripe.now place (Some (files_of self.old)) (Some (files_of self.new)) }
         ensures placed { IfOk result (HasName stripe.now place (Some (bytes_of file)) (Some (files_of self.new))) }
+        ensures changed { (given : Given) (from : MemoryStore) → given place ≡ None → ChangesOrHas stripe.now given (files_of from)
+            (files_of self.old) → GivesOneMore (λ name given old new. ChangesOrHas name given (files_of old) (files_of new)) stripe.now
+            given place (Some (bytes_of file)) from self.new }
         ensures exchanges { ExchangesName result stripe.now place (bytes_of file) (files_of self.old) (files_of self.new) }
     {
         self.exchange_name(stripe, place, file.bytes)

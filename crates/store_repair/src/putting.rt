@@ -1,9 +1,10 @@
 //! Giving rebuilt fragments of a stripe their names.
-ghost use Rattle.std.specs.Prelude.{◌≡◌, ◌≢◌, ◌&&◌, ◌++◌, ◌⊎◌, ℕ, List, [], IfOk, OnOk, All, Contains, true, false, length};
+ghost use Rattle.std.specs.Prelude.{◌≡◌, ◌≢◌, ◌&&◌, ◌++◌, ◌⊎◌, ℕ, List, [], IfOk, None, OnOk, All, Contains, true, false, length};
 ghost use Rattle.lrc_code.specs.declared.places.Place.{Place};
 ghost use Rattle.lrc_code.specs.Sets.{is_in};
 ghost use Rattle.store_repair.specs.Findings.{is_unsettled, named};
-ghost use Rattle.store_repair.specs.Kept.{Given, StaysOver, given_by};
+ghost use Rattle.store_repair.specs.Changed.{ChangesAmong, GivesOneMore};
+ghost use Rattle.store_repair.specs.Kept.{Given, StaysOver, given_by, nothing};
 ghost use Rattle.store_repair.specs.Opened.{AreApart, IsPutOf};
 ghost use Rattle.store_repair.specs.Repaired.{HasCause, IsPlaced, MayReplace, OnlyReplaces, SameBeside, is_silent, replaces};
 ghost use Rattle.store_repair.specs.Store.{AreUntouched, HasName, SameElsewhere};
@@ -61,6 +62,8 @@ pub(crate) fn put_all<S: Store>(
     ensures kept { (repair.now.replace_damaged && known.now.is_checked) ≡ false → (from : S)
         → S.kept stripe.now.name.now (given_by S.New.shown made.places.items made.files.items) from store.old
         → S.kept stripe.now.name.now (given_by S.New.shown made.places.items made.files.items) from store.new }
+    ensures changed { (from : S) → S.changed stripe.now.name.now nothing from store.old → ChangesAmong S.changed stripe.now.name.now
+        (given_by S.New.shown made.places.items made.files.items) from store.new }
     ensures put { IfOk result (λ v. All (IsPutOf S.New.shown made.places.items made.files.items stripe.now.name.now (S.files store.new))
         v.items) }
     ensures all { IfOk result (λ v. All (λ p. Contains v.items p ⊎ Contains (named known.now.findings.now ++ named later.new.items) p)
@@ -161,6 +164,8 @@ fn put_one<S: Store>(
     ensures elsewhere { SameElsewhere stripe.now.name.now place (S.files store.old) (S.files store.new) }
     ensures kept { replaces way ≡ false → (given : Given) (from : S) → given place ≡ S.New.shown file
         → S.kept stripe.now.name.now given from store.old → S.kept stripe.now.name.now given from store.new }
+    ensures changed { (given : Given) (from : S) → given place ≡ None → S.changed stripe.now.name.now given from store.old
+        → GivesOneMore S.changed stripe.now.name.now given place (S.New.shown file) from store.new }
     ensures put { IfOk result (λ b. b ≡ true → HasName stripe.now.name.now place (S.New.shown file) (S.files store.new) placed.Placed) }
     ensures grows { OnOk result ((p : Place) → Contains (named findings.old.items) p → Contains (named findings.new.items) p) }
     ensures said { IfOk result (λ b. b ≡ false → is_silent way ≡ false → Contains (named findings.new.items) place) }

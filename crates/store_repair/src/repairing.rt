@@ -4,6 +4,7 @@ ghost use Rattle.lrc_code.specs.declared.places.Place.{Place};
 ghost use Rattle.store_repair.specs.declared.settings.Reads.TheVariants.{All as ReadsAll, Checked as ReadsChecked};
 ghost use Rattle.store_repair.specs.Findings.{AreAllMended, is_unsettled};
 ghost use Rattle.store_repair.specs.Repaired.{IsAccountedFor, IsShownOrAll, IsWhole, MayReplace, OnlyReplaces};
+ghost use Rattle.store_repair.specs.Changed.{IsMended};
 ghost use Rattle.store_repair.specs.Kept.{AreDone, Given, IsRepaired};
 ghost use Rattle.store_repair.specs.Losses.{AreChecked};
 ghost use Rattle.lrc_code.specs.Sets.{is_in};
@@ -35,6 +36,7 @@ pub fn repair_stripe<S: Store>(
     ensures checked { IfOk result (λ o. o.is_checked ≡ true → AreChecked repair.now.code (is_in o.survivors) o.length) }
     ensures kept { repair.now.replace_damaged ≡ false
         → IsRepaired S.kept S.settled repair.now.code stripe.now.name.now (S.files store.old) store.old store.new }
+    ensures changed { IsMended S.changed repair.now.code stripe.now.name.now (S.files store.old) store.old store.new }
     ensures replaced { IfOk result (λ o. OnlyReplaces (MayReplace repair.now.replace_damaged repair.now.code (is_in o.survivors)
         o.is_checked o.length stripe.now.files.found o.findings.items) stripe.now.name.now (S.files store.old) (S.files store.new)) }
     ensures whole { repair.now.reads ≡ ReadsAll → IfOk result (λ o. AreAllMended o.findings.items o.rebuilt.items

@@ -1,7 +1,8 @@
 //! What a store gives for a repair: fragments that survive, and new ones that get their names when they are whole.
 ghost use Rattle.std.specs.Prelude.{◌≡◌, ◌++◌, ℕ, List, Option, None, IfOk, OnOk, IsSome, true, false, option_map};
 ghost use Rattle.lrc_code.specs.declared.places.Place.{Place};
-ghost use Rattle.store_repair.specs.Kept.{Given, StaysOver};
+ghost use Rattle.store_repair.specs.Changed.{GivesOneMore, IsAmong};
+ghost use Rattle.store_repair.specs.Kept.{Given, StaysOver, nothing};
 ghost use Rattle.store_repair.specs.Mended.{IsEmpty};
 ghost use Rattle.store_repair.specs.Shown.{IsReadAt};
 ghost use Rattle.store_repair.specs.Store.{AreUntouched, HasName, IsOpened, SameElsewhere, ShownFiles};
@@ -73,6 +74,13 @@ pub trait Store {
     /// Where nothing was called, all is as it was.
     ghost kept_same: { (stripe : List ℕ) (given : Given) (s : Self) → kept stripe given s s };
 
+    /// What a stripe's calls leave that may replace fragments, whenever they end, by a crash or by themselves: from the first state to the
+    /// second all is as it was, but for names of this stripe that were given these fragments, where what was there is kept.
+    ghost changed: { List ℕ → Given → Self → Self → Type 0 };
+
+    /// Where nothing was called, all is as it was.
+    ghost changed_same: { (stripe : List ℕ) (s : Self) → changed stripe nothing s s };
+
     /// A stripe's fragment at a place got its name, with these bytes. The name may still have to be written to the disk.
     ghost got_name: { Self → List ℕ → Place → Option (List ℕ) → Type 0 };
 
@@ -131,7 +139,9 @@ pub trait Store {
     fn replace(&mut self, file: Self::New, stripe: &str, place: Place) -> io::Result<Placed>
         ensures untouched { AreUntouched true stripe.now (files self.old) (files self.new) }
         ensures elsewhere { SameElsewhere stripe.now place (files self.old) (files self.new) }
-        ensures placed { IfOk result (HasName stripe.now place (Self.New.shown file) (files self.new)) };
+        ensures placed { IfOk result (HasName stripe.now place (Self.New.shown file) (files self.new)) }
+        ensures changed { (given : Given) (from : Self) → given place ≡ None → changed stripe.now given from self.old
+            → GivesOneMore changed stripe.now given place (Self.New.shown file) from self.new };
 
     /// Discards a fragment that has no name. What can't be removed may be said by `settle`.
     fn discard(&mut self, file: Self::New) -> io::Result<()>
@@ -149,6 +159,10 @@ pub trait Store {
 
     /// Where they are shown, so are new fragments.
     ghost new_shown: { (s : Self) (f : Self.New) → IsSome (files s) → IsSome (Self.New.shown f) };
+
+    /// After calls that may replace fragments, calls of the stripe that replace nothing.
+    ghost changed_then: { (stripe : List ℕ) (given more all : Given) (old mid new : Self) → IsAmong given all → IsAmong more all
+        → changed stripe given old mid → kept stripe more mid new → changed stripe all old new };
 
     /// What is on the disk stays there over a stripe's calls that replace nothing.
     ghost settled_stays: { (stripe : List ℕ) (given : Given) (old new : Self) → kept stripe given old new

@@ -1,4 +1,4 @@
-use Rattle.std.proofs.Common.{◌-◌, ◌≡◌, ◌≤◌, ◌*◌, length, min}
+use Rattle.std.proofs.Common.{◌≡◌, ◌≤◌, ◌*◌, length, min}
 use Rattle.store_folder.proofs.digesting.add_together.Given as goal
 
 abbrev pub invariant-loop-fragment : goal.invariant-loop-fragment

@@ -1,4 +1,4 @@
-use Rattle.std.proofs.Common.{◌∙◌, subst, List, ℕ}
+use Rattle.std.proofs.Common.{◌∙◌, ap, inr, subst, sym, List, ℕ, IfOk, IsSome}
 use Rattle.folders.specs.Exchanged.{Exchanges}
 use Rattle.store_folder.specs.Kept.{IsTemporary}
 use Rattle.store_folder.specs.Temporary.{is_temporary}
@@ -8,10 +8,14 @@ use Rattle.store_folder.proofs.replacing.exchange_whole.Goals as goal
 pub returns-in-Ok-clause-whenever : goal.returns-in-Ok-clause-whenever
 returns-in-Ok-clause-whenever g c =
     let path = c.args.path.now in
-    subst (λ (second : List ℕ). Exchanges IsTemporary (g.F.New.NewFile.written c.args.file) path second
-    (g.F.Folder.calls c.args.files.now) (g.F.Folder.calls c.exchange.new.folder)) c.requires.second.0
-    (c.exchange.ensures.whenever is_temporary c.requires.path c.requires.second.1 c.requires.temporary
-    (λ same. apart path (same ∙ c.requires.second.0)))
+    inr (record {
+      some = subst (λ r. IfOk r (λ _. IsSome (g.F.New.NewFile.written c.args.file))) c.in-Ok.is c.requires.whole;
+      lasting = ap is_temporary (sym c.requires.second.0) ∙ c.requires.second.1;
+      exchanges = subst (λ (second : List ℕ). Exchanges IsTemporary (g.F.New.NewFile.written c.args.file) path second
+          (g.F.Folder.calls c.args.files.now) (g.F.Folder.calls c.exchange.new.folder)) c.requires.second.0
+          (c.exchange.ensures.whenever is_temporary c.requires.path c.requires.second.1 c.requires.temporary
+          (λ same. apart path (same ∙ c.requires.second.0)));
+    })
 
 pub returns-in-Err-clause-whenever : goal.returns-in-Err-clause-whenever
 returns-in-Err-clause-whenever g c = replaces_nothing _ _ _

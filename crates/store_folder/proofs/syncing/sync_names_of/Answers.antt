@@ -1,5 +1,5 @@
 use Rattle.std.proofs.Common.{true, false, ap, ◌∙◌, List, ◌∷◌}
-use Rattle.folders.specs.Calls.{Answered, sync_folder}
+use Rattle.folders.specs.Calls.{sync_folder}
 use Rattle.folders.proofs.Runs.{keeps_quiet}
 use Rattle.store_folder.proofs.syncing.sync_names_of.Goals as goal
 

@@ -1,6 +1,6 @@
 use Rattle.std.specs.Prelude.{◌&&◌, Contains}
 use Rattle.std.proofs.Common.{◌≡◌, ◌∙◌, ◌<◌, ◌+◌, ℕ, [], ◌∷◌, ◌++◌, ◌≤◌, All, true, false}
-use Rattle.std.proofs.Common.{ap, arith, get_or, inl, length, refl, subst, sym, vec_len}
+use Rattle.std.proofs.Common.{ap, arith, get_or, inl, length, refl, rules, subst, sym, vec_len}
 use Rattle.std.proofs.lemmas.List.{get_or_default}
 use Rattle.std.proofs.lemmas.List.Elements.{Contains-append_left, Contains-get_or, Contains-push}
 use Rattle.lrc_code.specs.declared.places.Place.{Place}
@@ -10,6 +10,7 @@ use Rattle.store_repair.specs.Findings.{named}
 use Rattle.store_repair.specs.Kept.{given_by}
 use Rattle.store_repair.specs.Opened.{IsPutOf}
 use Rattle.store_repair.specs.Repaired.{MayReplace, is_silent, replaces}
+use Rattle.store_repair.proofs.GivenLemmas.{AreGivenFrom, among_quiet, given_next, given_none}
 use Rattle.store_repair.proofs.KeptLemmas.{all_more, all_over, given_here}
 use Rattle.store_repair.proofs.PutLemmas.{IsSaid, asked, beside_at, beside_trans, replaces_at, replaces_trans, said_left, said_more}
 use Rattle.store_repair.proofs.RepairLemmas.{far_before, far_more, off_too, popped_before, popped_last, put_before, put_more}
@@ -123,6 +124,82 @@ returns-in_err-put_one-clause-kept g c =
     let last = popped_last c.files.left.items c.pop.new.self.items made file n c.in-Some.ensures.items long same in
     λ off from before. c.put_one.ensures.kept (off_too way (r && checked) on off) (given_by shown places made) from
     (given_here shown places made n p file c.requires.apart even less here last) (c.files.invariant.kept off from before)
+
+pub returns-in_err-put_one-clause-changed : goal.returns-in_err-put_one-clause-changed
+returns-in_err-put_one-clause-changed g c =
+    let r = c.args.repair.now.replace_damaged in
+    let checked = c.args.known.now.is_checked in
+    let s = c.args.stripe.now.name.now in
+    let files = g.S.Store.files in
+    let old = files c.args.store.now in
+    let now = files c.files.store in
+    let next = files c.put_one.new.store in
+    let way = replaces c.way_of-way.result in
+    let places = c.args.made.places.items in
+    let p = c.index-place.result.now in
+    let may = MayReplace r c.args.repair.now.code (is_in c.args.known.now.survivors) checked c.args.known.now.length
+    c.args.stripe.now.files.found c.args.known.now.findings.now in
+    let on : way ≡ true → (r && checked) ≡ true =
+    λ e. asked r c.args.repair.now.code (is_in c.args.known.now.survivors) checked c.args.known.now.length c.args.stripe.now.files.found
+    c.args.known.now.findings.now p (c.way_of-way.ensures.replaced e) in
+    let made = c.args.made.files.items in
+    let shown = g.S.New.NewFragment.shown in
+    let n = vec_len c.pop.new.self in
+    let file = c.in-Some.file in
+    let more = c.in-Some.ensures.cases in
+    let few = c.files.invariant.few in
+    let less : n < length made = omega (arith, more, few) in
+    let long : length c.pop.new.self.items ≡ n = sym c.pop.new.self.ok.0 in
+    let even : length made ≡ length places = c.requires.lengths in
+    let here : (d : Place) → get_or places n d ≡ p =
+    λ d. get_or_default places n d p (omega (arith, less, even))
+    ∙ ap (λ k. get_or places k p) (sym c.len.ensures) ∙ sym c.index-place.ensures in
+    let same : (k : ℕ) (e : _) → k < n + 1 → get_or c.files.left.items k e ≡ get_or made k e =
+    λ k e lt. c.files.invariant.same k e (omega (arith, lt, more)) in
+    let last = popped_last c.files.left.items c.pop.new.self.items made file n c.in-Some.ensures.items long same in
+    λ from before. (given_next g.S.Store.changed s (given_by shown places made) places n p (shown file) from c.files.store
+    c.put_one.new.store c.requires.apart (omega (arith, less, even)) here
+    (given_here shown places made n p file c.requires.apart even less here last)
+    c.put_one.ensures.changed (subst (λ m. AreGivenFrom g.S.Store.changed s (given_by shown places made) places m from c.files.store)
+    (omega (arith, more)) (c.files.invariant.changed from before))).some
+
+pub returns-in_err-push-clause-changed : goal.returns-in_err-push-clause-changed
+returns-in_err-push-clause-changed g c =
+    let r = c.args.repair.now.replace_damaged in
+    let checked = c.args.known.now.is_checked in
+    let s = c.args.stripe.now.name.now in
+    let files = g.S.Store.files in
+    let old = files c.args.store.now in
+    let now = files c.files.store in
+    let next = files c.put_one.new.store in
+    let way = replaces c.way_of-way.result in
+    let places = c.args.made.places.items in
+    let p = c.index-place.result.now in
+    let may = MayReplace r c.args.repair.now.code (is_in c.args.known.now.survivors) checked c.args.known.now.length
+    c.args.stripe.now.files.found c.args.known.now.findings.now in
+    let on : way ≡ true → (r && checked) ≡ true =
+    λ e. asked r c.args.repair.now.code (is_in c.args.known.now.survivors) checked c.args.known.now.length c.args.stripe.now.files.found
+    c.args.known.now.findings.now p (c.way_of-way.ensures.replaced e) in
+    let made = c.args.made.files.items in
+    let shown = g.S.New.NewFragment.shown in
+    let n = vec_len c.pop.new.self in
+    let file = c.in-Some.file in
+    let more = c.in-Some.ensures.cases in
+    let few = c.files.invariant.few in
+    let less : n < length made = omega (arith, more, few) in
+    let long : length c.pop.new.self.items ≡ n = sym c.pop.new.self.ok.0 in
+    let even : length made ≡ length places = c.requires.lengths in
+    let here : (d : Place) → get_or places n d ≡ p =
+    λ d. get_or_default places n d p (omega (arith, less, even))
+    ∙ ap (λ k. get_or places k p) (sym c.len.ensures) ∙ sym c.index-place.ensures in
+    let same : (k : ℕ) (e : _) → k < n + 1 → get_or c.files.left.items k e ≡ get_or made k e =
+    λ k e lt. c.files.invariant.same k e (omega (arith, lt, more)) in
+    let last = popped_last c.files.left.items c.pop.new.self.items made file n c.in-Some.ensures.items long same in
+    λ from before. (given_next g.S.Store.changed s (given_by shown places made) places n p (shown file) from c.files.store
+    c.put_one.new.store c.requires.apart (omega (arith, less, even)) here
+    (given_here shown places made n p file c.requires.apart even less here last)
+    c.put_one.ensures.changed (subst (λ m. AreGivenFrom g.S.Store.changed s (given_by shown places made) places m from c.files.store)
+    (omega (arith, more)) (c.files.invariant.changed from before))).some
 
 pub returns-in_err-push-clause-untouched : goal.returns-in_err-push-clause-untouched
 returns-in_err-push-clause-untouched g c =
@@ -283,6 +360,11 @@ files-preserved-in-Continue-branch-2 g c =
           (λ k d le. c.files.invariant.all k d (omega (arith, le, more))));
       kept = λ off from before. c.put_one.ensures.kept (off_too way (r && checked) on off) (given_by shown places made) from
           (given_here shown places made n p file c.requires.apart even less here last) (c.files.invariant.kept off from before);
+      changed = λ from before. given_next g.S.Store.changed s (given_by shown places made) places n p (shown file) from c.files.store
+          c.put_one.new.store c.requires.apart (omega (arith, less, even)) here
+          (given_here shown places made n p file c.requires.apart even less here last)
+          c.put_one.ensures.changed (subst (λ m. AreGivenFrom g.S.Store.changed s (given_by shown places made) places m from c.files.store)
+          (omega (arith, more)) (c.files.invariant.changed from before));
       places = refl;
       few = omega (arith, more, few);
       same = popped_before c.files.left.items c.pop.new.self.items made file n c.in-Some.ensures.items long same;
@@ -352,6 +434,11 @@ files-preserved g c =
           (λ k d le. c.files.invariant.all k d (omega (arith, le, more)));
       kept = λ off from before. c.put_one.ensures.kept (off_too way (r && checked) on off) (given_by shown places made) from
           (given_here shown places made n p file c.requires.apart even less here last) (c.files.invariant.kept off from before);
+      changed = λ from before. given_next g.S.Store.changed s (given_by shown places made) places n p (shown file) from c.files.store
+          c.put_one.new.store c.requires.apart (omega (arith, less, even)) here
+          (given_here shown places made n p file c.requires.apart even less here last)
+          c.put_one.ensures.changed (subst (λ m. AreGivenFrom g.S.Store.changed s (given_by shown places made) places m from c.files.store)
+          (omega (arith, more)) (c.files.invariant.changed from before));
       places = refl;
       few = omega (arith, more, few);
       same = popped_before c.files.left.items c.pop.new.self.items made file n c.in-Some.ensures.items long same;
@@ -383,3 +470,33 @@ returns-clause-done g c = λ off settled.
     (given_by g.S.New.NewFragment.shown c.args.made.places.items c.args.made.files.items) c.files.put.items
     (g.S.Store.got_name c.files.store) (g.S.Store.settled c.settle.new.store) (c.in_ok-settle.ensures.done settled)
     (c.files.invariant.done off)
+
+pub returns-in_err-settle-clause-changed : goal.returns-in_err-settle-clause-changed
+returns-in_err-settle-clause-changed g c = λ from before. among_quiet g.S.Store.kept g.S.Store.changed g.S.Store.kept_same
+    g.met.S.Store.changed_then _ _ from _ _ (c.settle.ensures.kept _) (c.files.invariant.changed from before).some
+
+pub returns-clause-changed : goal.returns-clause-changed
+returns-clause-changed g c = λ from before. among_quiet g.S.Store.kept g.S.Store.changed g.S.Store.kept_same
+    g.met.S.Store.changed_then _ _ from _ _ (c.settle.ensures.kept _) (c.files.invariant.changed from before).some
+
+pub returns-in_err-settle-clause-kept : goal.returns-in_err-settle-clause-kept
+returns-in_err-settle-clause-kept g c = λ off from before. c.settle.ensures.kept _ _ from (c.files.invariant.kept off from before)
+
+pub returns-clause-kept : goal.returns-clause-kept
+returns-clause-kept g c = λ off from before. c.settle.ensures.kept _ _ from (c.files.invariant.kept off from before)
+
+pub files-init : goal.files-init
+files-init g c = record {
+  untouched = search rules;
+  replaced = search rules;
+  beside = search rules;
+  all = search rules;
+  kept = λ off from before. before;
+  changed = λ from before. given_none g.S.Store.changed _ _ _ _ from _ before;
+  places = search rules;
+  few = search rules;
+  same = search rules;
+  done = search rules;
+  put = search rules;
+  far = search rules;
+}

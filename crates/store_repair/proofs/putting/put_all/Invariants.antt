@@ -2,12 +2,13 @@ use Rattle.std.specs.Prelude.{◌&&◌}
 use Rattle.std.proofs.Common.{◌≡◌, ◌<◌, ◌≤◌, ℕ, All, false, get_or, length, vec_len}
 use Rattle.lrc_code.specs.declared.places.Place.{Place}
 use Rattle.lrc_code.specs.Places.{same_place}
-use Rattle.store_repair.specs.Kept.{given_by}
+use Rattle.store_repair.specs.Kept.{given_by, nothing}
 use Rattle.store_repair.specs.Opened.{IsPutOf}
 use Rattle.lrc_code.specs.Sets.{is_in}
 use Rattle.store_repair.specs.Findings.{named}
 use Rattle.store_repair.specs.Repaired.{MayReplace, OnlyReplaces, SameBeside}
 use Rattle.store_repair.specs.Store.{AreUntouched}
+use Rattle.store_repair.proofs.GivenLemmas.{AreGivenFrom}
 use Rattle.store_repair.proofs.PutLemmas.{IsSaid}
 use Rattle.store_repair.proofs.putting.put_all.Given as goal
 
@@ -26,6 +27,9 @@ invariant-files g l =
       kept : (l.fn.repair.replace_damaged && l.fn.known.is_checked) ≡ false → (from : _)
           → g.S.Store.kept l.fn.stripe.name.now (given_by g.S.New.NewFragment.shown l.fn.made.places.items made) from l.fn.store
           → g.S.Store.kept l.fn.stripe.name.now (given_by g.S.New.NewFragment.shown l.fn.made.places.items made) from l.store;
+      changed : (from : _) → g.S.Store.changed l.fn.stripe.name.now nothing from l.fn.store
+          → AreGivenFrom g.S.Store.changed l.fn.stripe.name.now (given_by g.S.New.NewFragment.shown l.fn.made.places.items made)
+          l.fn.made.places.items (vec_len l.left) from l.store;
       places : l.places.items ≡ l.fn.made.places.items;
       few : vec_len l.left ≤ length made;
       same : (k : ℕ) (e : _) → k < vec_len l.left → get_or l.left.items k e ≡ get_or made k e;

@@ -1,7 +1,32 @@
 use Rattle.std.proofs.lemmas.Result.{IfOk-weaker}
+use Rattle.store_repair.proofs.GivenLemmas.{placed_more, quiet_more}
 use Rattle.store_repair.proofs.KeptLemmas.{if_placed}
 use Rattle.store_repair.proofs.putting.put_one.Goals as goal
 
 pub returns-in-Place-clause-named : goal.returns-in-Place-clause-named
 returns-in-Place-clause-named g c = λ off. IfOk-weaker c.note_placed.result _ _
     (λ b of on. if_placed c.place-outcome.result _ c.place-outcome.ensures.named (of on)) c.note_placed.ensures.placed
+
+pub returns-in-Place-clause-changed : goal.returns-in-Place-clause-changed
+returns-in-Place-clause-changed g c = λ given from fresh before. placed_more g.S.Store.kept g.S.Store.changed g.S.Store.kept_same
+    g.met.S.Store.changed_then _ given _ _ from _ _ fresh c.place-outcome.ensures.kept before
+
+pub returns-in_err-discard-in-Leave-clause-changed : goal.returns-in_err-discard-in-Leave-clause-changed
+returns-in_err-discard-in-Leave-clause-changed g c = λ given from fresh before.
+    quiet_more g.S.Store.kept g.S.Store.changed g.S.Store.kept_same g.met.S.Store.changed_then _ given _ _ from _ _
+    (c.discard.ensures.kept _) before
+
+pub returns-in_err-note-in-Leave-clause-changed : goal.returns-in_err-note-in-Leave-clause-changed
+returns-in_err-note-in-Leave-clause-changed g c = λ given from fresh before.
+    quiet_more g.S.Store.kept g.S.Store.changed g.S.Store.kept_same g.met.S.Store.changed_then _ given _ _ from _ _
+    (c.discard.ensures.kept _) before
+
+pub returns-in_ok-note-in-Leave-clause-changed : goal.returns-in_ok-note-in-Leave-clause-changed
+returns-in_ok-note-in-Leave-clause-changed g c = λ given from fresh before.
+    quiet_more g.S.Store.kept g.S.Store.changed g.S.Store.kept_same g.met.S.Store.changed_then _ given _ _ from _ _
+    (c.discard.ensures.kept _) before
+
+pub returns-in_default-clause-changed : goal.returns-in_default-clause-changed
+returns-in_default-clause-changed g c = λ given from fresh before.
+    quiet_more g.S.Store.kept g.S.Store.changed g.S.Store.kept_same g.met.S.Store.changed_then _ given _ _ from _ _
+    (c.discard.ensures.kept _) before

@@ -8,7 +8,9 @@ use Rattle.store_repair.proofs.WholeLemmas.{is_whole, may_later, replaces_weaker
 use Rattle.lrc_code.specs.Sets.{is_in}
 use Rattle.store_repair.specs.Opened.{AreMade}
 use Rattle.store_repair.specs.Store.{AreUntouched}
-use Rattle.store_repair.proofs.KeptLemmas.{none_done, none_given, off_with, some_done, some_given}
+use Rattle.store_repair.specs.Kept.{given_by}
+use Rattle.store_repair.proofs.GivenLemmas.{given_none_mended, given_some_mended}
+use Rattle.store_repair.proofs.KeptLemmas.{are_fit, none_done, none_given, off_with, some_done, some_given}
 use Rattle.store_repair.proofs.RepairLemmas.{are_rebuilt, untouched_if, untouched_unless}
 use Rattle.store_repair.proofs.ShownLemmas.{none_shown, shown_later}
 use Rattle.store_repair.proofs.repairing.repair_stripe.Goals as goal
@@ -259,3 +261,101 @@ returns-clause-shown g c = λ reads.
     c.in_ok-rebuilt.ensures.all)
     (subst (λ o. IfSome o (λ m. IsShownOrAll listed code (is_in m.set) m.places.items first)) c.in-Some-made.is
     (c.in_ok-made.ensures.shown reads)))
+
+pub returns-in_err-known-clause-changed : goal.returns-in_err-known-clause-changed
+returns-in_err-known-clause-changed g c =
+    given_none_mended g.S.Store.kept g.S.Store.changed g.S.Store.kept_same g.met.S.Store.changed_then _ _ _ _
+    (g.S.Store.changed_same _ _) _
+    (λ given from before. before)
+
+pub returns-in_default-clause-changed : goal.returns-in_default-clause-changed
+returns-in_default-clause-changed g c =
+    given_none_mended g.S.Store.kept g.S.Store.changed g.S.Store.kept_same g.met.S.Store.changed_then _ _ _ _
+    (g.S.Store.changed_same _ _) _
+    (λ given from before. before)
+
+pub returns-in_err-made-clause-changed : goal.returns-in_err-made-clause-changed
+returns-in_err-made-clause-changed g c =
+    given_none_mended g.S.Store.kept g.S.Store.changed g.S.Store.kept_same g.met.S.Store.changed_then _ _ _ _
+    (g.S.Store.changed_same _ _) _
+    c.make_lost.ensures.kept
+
+pub returns-in_err-note_unknown-clause-changed : goal.returns-in_err-note_unknown-clause-changed
+returns-in_err-note_unknown-clause-changed g c =
+    given_none_mended g.S.Store.kept g.S.Store.changed g.S.Store.kept_same g.met.S.Store.changed_then _ _ _ _
+    (g.S.Store.changed_same _ _) _
+    c.make_lost.ensures.kept
+
+pub returns-in_err-settle-clause-changed : goal.returns-in_err-settle-clause-changed
+returns-in_err-settle-clause-changed g c =
+    given_none_mended g.S.Store.kept g.S.Store.changed g.S.Store.kept_same g.met.S.Store.changed_then _ _ _ _
+    (g.S.Store.changed_same _ _) _
+    (λ given from before. c.settle.ensures.kept _ given from (c.make_lost.ensures.kept given from before))
+
+pub returns-in_default-made-clause-changed : goal.returns-in_default-made-clause-changed
+returns-in_default-made-clause-changed g c =
+    given_none_mended g.S.Store.kept g.S.Store.changed g.S.Store.kept_same g.met.S.Store.changed_then _ _ _ _
+    (g.S.Store.changed_same _ _) _
+    (λ given from before. c.settle.ensures.kept _ given from (c.make_lost.ensures.kept given from before))
+
+pub returns-in_err-discard_all-clause-changed : goal.returns-in_err-discard_all-clause-changed
+returns-in_err-discard_all-clause-changed g c =
+    given_none_mended g.S.Store.kept g.S.Store.changed g.S.Store.kept_same g.met.S.Store.changed_then _ _ _ _
+    (g.S.Store.changed_same _ _) _
+    (λ given from before. c.discard_all.ensures.kept _ given from (c.make_lost.ensures.kept given from before))
+
+pub returns-in_err-settle-2-clause-changed : goal.returns-in_err-settle-2-clause-changed
+returns-in_err-settle-2-clause-changed g c =
+    given_none_mended g.S.Store.kept g.S.Store.changed g.S.Store.kept_same g.met.S.Store.changed_then _ _ _ _
+    (g.S.Store.changed_same _ _) _
+    (λ given from before. c.settle-then-has_changed.ensures.kept _ given from (c.discard_all.ensures.kept _ given from
+    (c.make_lost.ensures.kept given from before)))
+
+pub returns-then-has_changed-clause-changed : goal.returns-then-has_changed-clause-changed
+returns-then-has_changed-clause-changed g c =
+    given_none_mended g.S.Store.kept g.S.Store.changed g.S.Store.kept_same g.met.S.Store.changed_then _ _ _ _
+    (g.S.Store.changed_same _ _) _
+    (λ given from before. c.settle-then-has_changed.ensures.kept _ given from (c.discard_all.ensures.kept _ given from
+    (c.make_lost.ensures.kept given from before)))
+
+pub returns-in_err-rebuilt-clause-changed : goal.returns-in_err-rebuilt-clause-changed
+returns-in_err-rebuilt-clause-changed g c =
+    let made = c.in-Some-made.made in
+    let code = c.args.repair.now.code in
+    let stripe = c.args.stripe.now.name.now in
+    let old = g.S.Store.files c.args.store.now in
+    let shown = g.S.New.NewFragment.shown in
+    given_some_mended g.S.Store.kept g.S.Store.changed g.S.Store.kept_same g.met.S.Store.changed_then stripe code old c.args.store.now
+    (g.S.Store.changed_same stripe c.args.store.now) (given_by shown made.places.items made.files.items) c.make_lost.new.store
+    c.put_all.new.store (are_fit shown code (is_in made.set) c.in-Some.length stripe old made.places.items made.files.items
+    (subst (λ o. IfSome o (λ m. AreMade shown code (is_in m.set) c.in-Some.length stripe old m.places.items m.files.items))
+    c.in-Some-made.is c.in_ok-made.ensures.made))
+    c.make_lost.ensures.kept c.put_all.ensures.changed
+
+pub returns-in_err-append-clause-changed : goal.returns-in_err-append-clause-changed
+returns-in_err-append-clause-changed g c =
+    let made = c.in-Some-made.made in
+    let code = c.args.repair.now.code in
+    let stripe = c.args.stripe.now.name.now in
+    let old = g.S.Store.files c.args.store.now in
+    let shown = g.S.New.NewFragment.shown in
+    given_some_mended g.S.Store.kept g.S.Store.changed g.S.Store.kept_same g.met.S.Store.changed_then stripe code old c.args.store.now
+    (g.S.Store.changed_same stripe c.args.store.now) (given_by shown made.places.items made.files.items) c.make_lost.new.store
+    c.put_all.new.store (are_fit shown code (is_in made.set) c.in-Some.length stripe old made.places.items made.files.items
+    (subst (λ o. IfSome o (λ m. AreMade shown code (is_in m.set) c.in-Some.length stripe old m.places.items m.files.items))
+    c.in-Some-made.is c.in_ok-made.ensures.made))
+    c.make_lost.ensures.kept c.put_all.ensures.changed
+
+pub returns-clause-changed : goal.returns-clause-changed
+returns-clause-changed g c =
+    let made = c.in-Some-made.made in
+    let code = c.args.repair.now.code in
+    let stripe = c.args.stripe.now.name.now in
+    let old = g.S.Store.files c.args.store.now in
+    let shown = g.S.New.NewFragment.shown in
+    given_some_mended g.S.Store.kept g.S.Store.changed g.S.Store.kept_same g.met.S.Store.changed_then stripe code old c.args.store.now
+    (g.S.Store.changed_same stripe c.args.store.now) (given_by shown made.places.items made.files.items) c.make_lost.new.store
+    c.put_all.new.store (are_fit shown code (is_in made.set) c.in-Some.length stripe old made.places.items made.files.items
+    (subst (λ o. IfSome o (λ m. AreMade shown code (is_in m.set) c.in-Some.length stripe old m.places.items m.files.items))
+    c.in-Some-made.is c.in_ok-made.ensures.made))
+    c.make_lost.ensures.kept c.put_all.ensures.changed

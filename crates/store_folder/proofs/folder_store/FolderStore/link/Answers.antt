@@ -1,4 +1,4 @@
-use Rattle.std.proofs.Common.{List, string_bytes, subst, sym, ap, ◌⊎◌, IfSome, IfOk, MatchResult}
+use Rattle.std.proofs.Common.{List, subst, sym, ◌⊎◌, IfSome, IfOk, MatchResult}
 use Rattle.folders.specs.Calls.{Answered}
 use Rattle.folders.specs.Placed.{HasPath, WasRefused}
 use Rattle.store_folder.specs.Done.{HaveFoldersOf, IsDue}

@@ -1,4 +1,4 @@
-use Rattle.std.proofs.Common.{string_bytes, subst, sym}
+use Rattle.std.proofs.Common.{subst, sym}
 use Rattle.store_names.specs.Names.{IsNameOf}
 use Rattle.store_folder.proofs.folder_store.FolderStore.named_path.Goals as goal
 

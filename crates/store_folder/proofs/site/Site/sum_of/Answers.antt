@@ -1,4 +1,4 @@
-use Rattle.std.proofs.Common.{◌≡◌, ◌∙◌, ap, subst, sym, ℕ, List, MatchOption, string_bytes}
+use Rattle.std.proofs.Common.{◌∙◌, ap, subst, sym, ℕ, List, MatchOption, string_bytes}
 use Rattle.std.specs.Prelude.{option_and_then}
 use Rattle.store_names.specs.Names.{IsNameOf}
 use Rattle.store_records.specs.Sums.{digest_in}

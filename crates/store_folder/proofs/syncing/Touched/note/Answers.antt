@@ -1,4 +1,4 @@
-use Rattle.std.proofs.Common.{◌≡◌, ◌∙◌, ap, sym, subst, true, not, ◌++◌, ◌∷◌, [], string_bytes}
+use Rattle.std.proofs.Common.{◌∙◌, ap, sym, subst, string_bytes}
 use Rattle.std.specs.List.{list_any}
 use Rattle.std.specs.Str.{bytes_eq}
 use Rattle.folders.specs.Files.{IsIn}

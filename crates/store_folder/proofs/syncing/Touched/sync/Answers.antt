@@ -1,4 +1,4 @@
-use Rattle.std.proofs.Common.{◌∷◌, [], ◌++◌, subst, arith}
+use Rattle.std.proofs.Common.{subst, arith}
 use Rattle.std.proofs.lemmas.List.{nil_from_length}
 use Rattle.folders.proofs.Runs.{keeps_all, keeps_after}
 use Rattle.store_folder.specs.Done.{IsDue}
