@@ -355,6 +355,35 @@ def test_locks(place, choose):
         hold((store / "s.x0").read_bytes() == files["s.x0"], "the fragment isn't what it was")
 
 
+def test_files_named_like_locks(place, choose):
+    """A file of other software that is named like a part's lock stays as it is, in the store's folder and among the fragments, and a lock
+    that a run has left there goes."""
+    store = place / "named-like-locks"
+    words = ["--names", "{place}/{stripe}"]
+    for name, data in stripe("6-2-2", 600, choose).items():
+        (store / name).mkdir(parents=True)
+        (store / name / "s").write_bytes(data)
+    data = (store / "x0/s").read_bytes()
+    others = [store / LOCK_OF_PART, store / "x0" / LOCK_OF_PART, store / "x1/.rebuild-store-part-3-of-4"]
+    kinds = {"bytes": choose.randbytes(600), "text": b"minutes of a meeting\n", "no line": b"17@host", "long": b"17@host\n" * 100}
+    for kind, bytes_of_it in kinds.items():
+        for other in others:
+            other.write_bytes(bytes_of_it)
+        (store / "x0/s").unlink()
+        said = run("repair", store, *words, "--part", "1/2", status=3)
+        hold(f"{LOCK_OF_PART}: has the name of a lock and isn't one" in said, said)
+        for part in ("1/3", "2/3", "3/3"):
+            run("repair", store, *words, "--part", part, status=0)
+        run("repair", store, *words, status=0)
+        hold((store / "x0/s").read_bytes() == data, f"{kind}: the fragment isn't what it was")
+        hold([it.read_bytes() for it in others] == [bytes_of_it] * len(others), f"{kind}: a file that is named like a lock has changed")
+    for left in (b"", f"4194304@{os.uname().nodename[:64]}\n".encode()):
+        for other in others:
+            other.write_bytes(left)
+        said = run("repair", store, *words, status=0)
+        hold(not any(it.exists() for it in others), f"a lock that a run left stays: {said}")
+
+
 def test_locks_of_refused_runs(place, choose):
     """A repair that is refused before it begins, by the limit on files' lengths, leaves no lock of its part."""
     store = place / "refused"

@@ -53,7 +53,7 @@ pub use store_repair::{Found, Placed, StripeFiles};
 pub use stripe_names::{Alone, Others, StoreStripes, StripeNames};
 pub use sums::{SUMS_NAME, read_sums};
 pub use surviving::{FileFragment, open_fragment};
-pub use unfinished::{Leftover, remove_leftover};
+pub use unfinished::{Leftover, MOST_OF_LOCK, is_of_run, remove_leftover};
 pub use unfinished_file::UnfinishedFile;
 pub use watching::{Foreign, Wanted, Watched};
 pub use writing::write_over;

@@ -7,10 +7,14 @@ use crate::links::Links;
 use crate::regular::open_regular;
 use folders::{Folder, NewFile, create_locked};
 use std::alloc::{AllocError, Global};
-use std::fs::{self, TryLockError};
+use std::fs::{self, File, TryLockError};
 use std::io::{self, ErrorKind};
+use std::os::unix::fs::FileExt;
 use std::random::RandomSource;
-use store_names::{RANDOM_DIGITS, UNFINISHED, is_free, path_in};
+use store_names::{RANDOM_DIGITS, UNFINISHED, is_free, is_run, is_unfinished, last_of, path_in};
+
+/// No text that a run writes into the file of its lock is longer.
+pub const MOST_OF_LOCK: u64 = 200;
 
 /// How many names are tried for a new file.
 const MOST_NAMES: usize = 100;
@@ -111,15 +115,16 @@ pub(crate) fn new_path(rt: &HostRuntime, folder: &str, tag: &str) -> io::Result<
 #[derive(Debug, Drop)]
 pub enum Leftover {
     Removed,
-    /// It is no regular file, or a run works on it, so it stays.
+    /// It is no regular file, or a run works on it, or it has the name of a lock and other bytes than a lock has, so it stays.
     Kept,
     /// The system refused to open it, or to remove it.
     Refused(io::Error),
 }
 
 /// Removes the regular file at a path that no run works on. Where it can't be opened or locked to see that, it is removed only if the
-/// caller knows.
+/// caller knows, and a lock never.
 pub fn remove_leftover(rt: &HostRuntime, path: &str, is_known_dead: bool) -> Leftover {
+    let may_be_unseen = is_known_dead && is_unfinished(last_of(path));
     match open_regular(rt, path, Links::NotFollowed) {
         Ok(opened) => {
             match opened.file.try_lock() {
@@ -129,13 +134,39 @@ pub fn remove_leftover(rt: &HostRuntime, path: &str, is_known_dead: bool) -> Lef
                 }
                 _ => {}
             }
-            removed(fs::remove_file(rt, path))
+            match is_of_run(&opened.file, path) {
+                Ok(true) => removed(fs::remove_file(rt, path)),
+                Ok(false) => Leftover::Kept,
+                Err(error) => Leftover::Refused(error),
+            }
         }
         Err(error) if error.kind() == ErrorKind::InvalidInput => Leftover::Kept,
-        Err(error) if error.kind() == ErrorKind::PermissionDenied && is_known_dead => removed(
+        Err(error) if error.kind() == ErrorKind::PermissionDenied && may_be_unseen => removed(
             fs::remove_file(rt, path),
         ),
         Err(error) => Leftover::Refused(error),
+    }
+}
+
+/// Whether a file that is open for reading has what runs write under its name: the bytes of an unfinished file are any, and a lock has
+/// none, or a line that says a run. A fragment of other software that is named like a lock has others.
+pub fn is_of_run(file: &File, path: &str) -> io::Result<bool> {
+    let length = file.metadata()?.len();
+    if length == 0 || is_unfinished(last_of(path)) {
+        return Ok(true);
+    }
+    if length > MOST_OF_LOCK {
+        return Ok(false);
+    }
+    let mut room = [0; MOST_OF_LOCK as usize];
+    let bytes = &mut room[..length as usize];
+    file.read_exact_at(bytes, 0)?;
+    let Ok(text) = str::from_utf8(bytes) else {
+        return Ok(false);
+    };
+    match text.strip_suffix('\n') {
+        Some(run) => Ok(is_run(run)),
+        None => Ok(false),
     }
 }
 

@@ -4,7 +4,7 @@ use std::alloc::{AllocError, Global};
 use std::fs::{self, File, TryLockError};
 use std::io::{self, ErrorKind, Write};
 use store_faults::{StoreFault, device_fault};
-use store_folder::{Links, Part, is_named, lock_name, open_as, path_in};
+use store_folder::{Links, Part, is_named, is_of_run, lock_name, open_as, path_in};
 use store_names::Locking;
 
 /// How often the file of a part's lock is opened anew where another run has removed it meanwhile.
@@ -195,7 +195,7 @@ fn lock_part(rt: &HostRuntime, sharing: &Sharing, path: &str) -> Result<File, St
         let LockFile { file, is_new } = opened;
         let lock = file.try_lock();
         let file = locked(file, lock, String::from_str(alloc, path)?)?;
-        match is_named(rt, &file, path) {
+        match is_at(rt, &file, path) {
             Ok(true) => return owned(rt, sharing, path, file, is_new),
             Ok(false) => {}
             Err(error) => return Err(device_fault(String::from_str(alloc, path)?, error)),
@@ -204,6 +204,14 @@ fn lock_part(rt: &HostRuntime, sharing: &Sharing, path: &str) -> Result<File, St
     Err(StoreFault::InUse {
         folder: String::from_str(alloc, path)?,
     })
+}
+
+/// Whether a lock that is open is at a path. One that has other bytes than locks is a file of somebody else, and refused.
+fn is_at(rt: &HostRuntime, file: &File, path: &str) -> io::Result<bool> {
+    if !is_of_run(file, path)? {
+        return Err(io::Error::other("has the name of a lock and isn't one"));
+    }
+    is_named(rt, file, path)
 }
 
 /// The file of a lock, in which this run is written if nothing is known of locks there; it is refused if a run may have it that was there
@@ -250,7 +258,7 @@ struct LockFile {
 /// Makes the file of a lock, or opens the regular file that is there.
 fn open_lock(rt: &HostRuntime, path: &str) -> io::Result<LockFile> {
     let mut options = File::options();
-    options.write(true);
+    options.read(true).write(true);
     let mut new = File::options();
     new.write(true).create_new(true);
     match new.open(rt, path) {

@@ -3,6 +3,7 @@ use std::alloc::{AllocError, Global};
 use std::fs;
 use std::io::ErrorKind;
 use store_faults::{StoreFault, device_fault};
+use store_folder::MOST_OF_LOCK;
 use store_names::{Locking, is_run, is_unfinished, last_of, locking_at, run_named, run_of};
 
 /// This process, as a link that is its number, and the name of this host.
@@ -11,9 +12,6 @@ const PROCESS: &str = "/proc/self";
 const HOST: &str = "/proc/sys/kernel/hostname";
 
 const MOUNTS: &str = "/proc/self/mountinfo";
-
-/// No text that a run writes into the file of its lock is longer.
-const MOST_OF_LOCK: u64 = 200;
 
 /// A run that writes, and the mounts that it sees.
 #[derive(Drop)]
