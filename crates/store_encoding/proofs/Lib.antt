@@ -1,3 +1,4 @@
+pub mod Digests
 pub mod HaveGot
 pub mod Names
 pub mod Order

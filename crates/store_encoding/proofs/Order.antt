@@ -1,5 +1,5 @@
 -- The order in which files are replaced.
-use Rattle.std.proofs.Common.{◌≡◌, ◌⊎◌, inl, inr, ℕ, List, [], ◌∷◌, ◌++◌, true, Option, Some, None, option_map, refl, sym, ◌∙◌, ap, subst}
+use Rattle.std.proofs.Common.{◌≡◌, ◌⊎◌, inl, inr, ℕ, List, ◌++◌, true, Option, Some, None, option_map, sym, ◌∙◌, ap, subst}
 use Rattle.std.proofs.Common.{IfSome, IsSome}
 use Rattle.std.proofs.lemmas.List.{append_assoc}
 use Rattle.folders.specs.Calls.{Answered}
@@ -14,6 +14,8 @@ use Rattle.store_folder.specs.Kept.{IsTemporary}
 use Rattle.store_folder.specs.Written.{Puts}
 use Rattle.store_encoding.specs.Names.{AreApart, IsFileOf, Replaces, sums_path}
 use Rattle.store_encoding.specs.Replaced.{AllGot, GivesOnly, Goes, HasBoth, HasNew, HasOld, IsNewOf, IsRun, IsSums, ReplacesFile}
+use Rattle.store_encoding.specs.Replaced.{SaysOthers}
+use Rattle.store_records.specs.declared.sums.Sums.{Sums}
 use Rattle.store_encoding.specs.declared.encoding.stripe_files.StripeFiles.{StripeFiles}
 use Rattle.store_encoding.proofs.HaveGot.{got_over, had_left, had_seen}
 use Rattle.store_encoding.proofs.Names.{replaces_named}
@@ -39,9 +41,11 @@ module _ (folder : List ℕ) (files others : StripeFiles) where
   Pairs = Replaces folder files others
 
   -- ---- nothing gets a name, and the stripe's files go
-  pub replaces_none : (old new : List Answered) → Puts (Goes folder files) old new → ReplacesFile folder files others old new
-  replaces_none old new run = record {
+  pub replaces_none : (sums : Sums) (old new : List Answered) → Puts (Goes folder files) old new
+      → ReplacesFile folder files others sums old new
+  replaces_none sums old new run = record {
     text = None;
+    says = tt;
     gives = gives_weaker Nothing Pairs (Goes folder files) (IsNewOf folder None files) (λ from to none. absurd none)
         (λ path content goes. inr goes) IsTemporary old new run;
     more = run.more;
@@ -90,9 +94,11 @@ module _ (folder : List ℕ) (files others : StripeFiles) where
         (λ path content sums. inl sums) IsTemporary old new run
 
     -- ---- the stripe's files don't go
-    pub replaces_early : (old new : List Answered) → Early old new → ReplacesFile folder files others old new
-    replaces_early old new run = record {
+    pub replaces_early : (sums : Sums) → SaysOthers files others sums text → (old new : List Answered) → Early old new
+        → ReplacesFile folder files others sums old new
+    replaces_early sums says old new run = record {
       text = text;
+      says = says;
       gives = all_new old new run;
       more = run.more;
       are = run.are;
@@ -132,10 +138,10 @@ module _ (folder : List ℕ) (files others : StripeFiles) where
         sums = still_there;
       }
 
-    pub replaces_all : (old mid new : List Answered) → Early old mid → AllGot Pairs old mid
-        → IfSome text (λ bytes. IsOnDisk (sums_path folder) bytes mid) → Puts (Goes folder files) mid new
-        → ReplacesFile folder files others old new
-    replaces_all old mid new early got sums last =
+    pub replaces_all : (before : Sums) → SaysOthers files others before text → (old mid new : List Answered) → Early old mid
+        → AllGot Pairs old mid → IfSome text (λ bytes. IsOnDisk (sums_path folder) bytes mid) → Puts (Goes folder files) mid new
+        → ReplacesFile folder files others before old new
+    replaces_all before says old mid new early got sums last =
         let later = last.more in let more = early.more in
         let again = subst (λ (calls : List Answered). (w : World) → IsSound IsTemporary w calls → RenameOwn w new
         → ((from to : List ℕ) → Nothing from to → w.ours from ≡ true)
@@ -145,6 +151,7 @@ module _ (folder : List ℕ) (files others : StripeFiles) where
         let sums_here = subst (λ (calls : List Answered). IfSome text (λ bytes. IsOnDisk (sums_path folder) bytes calls)) early.are sums in
         record {
           text = text;
+          says = says;
           gives = gives_after IsTemporary Pairs (IsNewOf folder text files) Nothing (Goes folder files) (λ from to none. absurd none)
               (λ path content goes. inr goes) (λ from to none. absurd none) (λ from between to before none. none)
               (λ from to content none. absurd none) old mid new (all_new old mid early) last;

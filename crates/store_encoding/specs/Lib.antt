@@ -1,3 +1,4 @@
+pub mod Digests
 pub mod Names
 pub mod Own
 pub mod Replaced

@@ -9,6 +9,7 @@ use Rattle.store_folder.specs.Kept.{IsTemporary}
 use Rattle.store_folder.specs.Temporary.{is_temporary}
 use Rattle.store_records.specs.SumLines.{sum_lines}
 use Rattle.store_records.specs.declared.sums.Sums.{Sums}
+use Rattle.store_encoding.specs.Digests.{KeepsOthers}
 use Rattle.store_encoding.specs.Names.{IsFileOf, Replaces, sums_path}
 use Rattle.store_encoding.specs.declared.encoding.stripe_files.StripeFiles.{StripeFiles}
 
@@ -50,6 +51,10 @@ IsSums folder text path content = (path ≡ sums_path folder) × (content ≡ te
 abbrev pub IsTextOf : Sums → Option (List ℕ) → Type 0
 IsTextOf sums text = IfSome text (λ bytes. bytes ≡ sum_lines sums)
 
+-- the text is that of sums that say of each name but those of two stripes' files what these say, if there is one
+abbrev pub SaysOthers : StripeFiles → StripeFiles → Sums → Option (List ℕ) → Type 0
+SaysOthers files others sums text = IfSome text (λ bytes. (new : Sums) × (bytes ≡ sum_lines new) × KeepsOthers files others sums new)
+
 -- one of a stripe's files goes
 abbrev pub Goes : List ℕ → StripeFiles → List ℕ → Option (List ℕ) → Type 0
 Goes folder files path content = IsFileOf folder files path × (content ≡ None)
@@ -83,9 +88,10 @@ pub record HasBoth (folder : List ℕ) (files others : StripeFiles) (text : Opti
 -- Whenever the run ends, by a crash or by itself, each path but temporary ones has what it had, or is one of a stripe's files and has what
 -- was seen at the one that was to replace it, or is that of the digests and has all of a text, or is one of the files that were to replace
 -- the stripe's, which go. And these go only if nothing else changes, or once each of the stripe's files has its new one and the digests are
--- there, also after a crash.
-pub record ReplacesFile (folder : List ℕ) (files others : StripeFiles) (old new : List Answered) : Type 0 where
+-- there, also after a crash. The text says of all other files what the digests said before.
+pub record ReplacesFile (folder : List ℕ) (files others : StripeFiles) (sums : Sums) (old new : List Answered) : Type 0 where
   pub text : Option (List ℕ)
+  pub says : SaysOthers files others sums text
   pub gives : Gives IsTemporary (Replaces folder files others) (IsNewOf folder text files) old new
   pub more : List Answered
   pub are : new ≡ more ++ old

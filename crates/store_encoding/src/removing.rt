@@ -2,6 +2,7 @@
 //! fragments: what a run that was killed has left is a file that can still be read, or fragments that the same command removes.
 ghost use Rattle.std.specs.Prelude.{◌≡◌, ℕ, List, Option};
 ghost use Rattle.store_folder.specs.Written.{Puts};
+ghost use Rattle.store_encoding.specs.Digests.{KeepsDigests};
 ghost use Rattle.store_encoding.specs.Replaced.{IsTextOf};
 ghost use Rattle.store_encoding.specs.Taken.{GoesOf, IsTakenOut, KeepsRest};
 
@@ -107,6 +108,7 @@ pub(crate) fn remove_names<F: Folder>(
     names: &[String],
 ) -> Result<(), FileFault>
     ensures folder { target.new.folder ≡ target.old.folder }
+    ensures sums { KeepsDigests names.now target.old.sums target.new.sums }
     ensures rest { KeepsRest (F.calls files.old) (F.calls files.new) }
     ensures gone { Puts (GoesOf target.old.folder.now names.now) (F.calls files.old) (F.calls files.new) }
 {

@@ -1,10 +1,11 @@
 //! Replacing a file of a store by one that has other bytes. The new one is encoded first, as a stripe of a name of its own. Once its
 //! description is there, all of it is on the disk, and reading gives the new file. Then each of its files gets its name beside that, in
 //! place of the old one, and at last the names of its own go. So at any moment the store has all of the old file or all of the new one.
-ghost use Rattle.std.specs.Prelude.{◌≡◌, ◌∷◌, ◌++◌, IfOk, OnOk, true};
+ghost use Rattle.std.specs.Prelude.{◌≡◌, ◌∷◌, ◌++◌, IfOk, OnOk, string_bytes, true};
 ghost use Rattle.folders.specs.Given.{IsAbsent, IsPair};
 ghost use Rattle.store_folder.specs.Kept.{KeepsEach};
 ghost use Rattle.store_folder.specs.Written.{Puts};
+ghost use Rattle.store_encoding.specs.Digests.{KeepsBeside, KeepsBut, KeepsDigests};
 ghost use Rattle.store_encoding.specs.Names.{AreApart, CanGive, IsPairOf, Replaces, path_of};
 ghost use Rattle.store_encoding.specs.Replaced.{AllGot, GivesOnly, Goes, IsGivenTo, ReplacesFile};
 
@@ -95,7 +96,7 @@ fn end<F: Folder>(
     is_whole: bool,
 ) -> Result<(), FileFault>
     requires { AreApart target.old.folder.now begun.now replaced.now }
-    ensures { ReplacesFile target.old.folder.now begun.now replaced.now (F.calls files.old) (F.calls files.new) }
+    ensures { ReplacesFile target.old.folder.now begun.now replaced.now target.old.sums (F.calls files.old) (F.calls files.new) }
 {
     if !is_whole {
         return remove_all(rt, files, target, begun);
@@ -123,7 +124,8 @@ fn remove_all<F: Folder>(
 
 /// Takes the digests of some names out of those of the store.
 fn forget_digests(target: &mut Target<'_>, names: &[String])
-    ensures { target.new.folder ≡ target.old.folder }
+    ensures folder { target.new.folder ≡ target.old.folder }
+    ensures sums { KeepsDigests names.now target.old.sums target.new.sums }
 {
     'names: for name in names {
         target.is_changed = target.sums.remove(name.as_str()) || target.is_changed;
@@ -144,6 +146,7 @@ fn give_all<F: Folder>(
     ensures folder { target.new.folder ≡ target.old.folder }
     ensures whenever { GivesOnly (Replaces target.old.folder.now begun.now replaced.now) (F.calls files.old) (F.calls files.new) }
     ensures got { OnOk result (AllGot (Replaces target.old.folder.now begun.now replaced.now) (F.calls files.old) (F.calls files.new)) }
+    ensures sums { OnOk result (KeepsBeside replaced.now target.old.sums target.new.sums) }
 {
     let fragments = replaced.fragments.as_slice();
     give_names(rt, files, target, begun.fragments.as_slice(), fragments)?;
@@ -168,6 +171,7 @@ fn remove_old<F: Folder>(
     requires { CanGive (IsPairOf target.old.folder.now names.now others.now) }
     ensures folder { target.new.folder ≡ target.old.folder }
     ensures whenever { GivesOnly (IsPairOf target.old.folder.now names.now others.now) (F.calls files.old) (F.calls files.new) }
+    ensures sums { KeepsDigests others.now target.old.sums target.new.sums }
 {
     'names: for (name, other) in names.iter().zip(others.iter()) {
         remove_lost(rt, files, target, name.as_str(), other)?;
@@ -188,6 +192,7 @@ fn remove_lost<F: Folder>(
     ensures folder { target.new.folder ≡ target.old.folder }
     ensures whenever { GivesOnly (IsPair (target.old.folder.now ++ 47 ∷ name.now) (path_of target.old.folder.now other.now))
         (F.calls files.old) (F.calls files.new) }
+    ensures sums { KeepsBut (string_bytes other.now) target.old.sums target.new.sums }
 {
     let path = target.path(rt.alloc(), name)?;
     if !is_lost(rt, files, path.as_str())? {
@@ -219,6 +224,7 @@ fn give_names<F: Folder>(
     ensures folder { target.new.folder ≡ target.old.folder }
     ensures whenever { GivesOnly (IsPairOf target.old.folder.now names.now others.now) (F.calls files.old) (F.calls files.new) }
     ensures got { OnOk result (AllGot (IsPairOf target.old.folder.now names.now others.now) (F.calls files.old) (F.calls files.new)) }
+    ensures sums { OnOk result (KeepsDigests others.now target.old.sums target.new.sums) }
 {
     'names: for (name, other) in names.iter().zip(others.iter()) {
         give_one(rt, files, target, name.as_str(), other.as_str())?;
@@ -240,6 +246,7 @@ fn give_one<F: Folder>(
         (F.calls files.old) (F.calls files.new) }
     ensures given { OnOk result (IsGivenTo (target.old.folder.now ++ 47 ∷ name.now) (target.old.folder.now ++ 47 ∷ other.now)
         (F.calls files.new)) }
+    ensures sums { OnOk result (KeepsBut other.now target.old.sums target.new.sums) }
 {
     let alloc = rt.alloc();
     let path = target.path(alloc, name)?;
@@ -260,7 +267,8 @@ fn note_digest(
     name: &str,
     other: &str,
 ) -> Result<(), AllocError>
-    ensures { target.new.folder ≡ target.old.folder }
+    ensures folder { target.new.folder ≡ target.old.folder }
+    ensures sums { OnOk result (KeepsBut other.now target.old.sums target.new.sums) }
 {
     if let Some(digest) = target.sums.digest_of(name).copied() {
         target.sums.set(alloc, other, digest)?;

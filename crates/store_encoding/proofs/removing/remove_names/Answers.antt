@@ -1,7 +1,8 @@
-use Rattle.std.proofs.Common.{◌∙◌, ap, sym, subst, ℕ, List, Bor, String, Global}
+use Rattle.std.proofs.Common.{◌∙◌, ap, sym, subst, ℕ, List, Bor, String, Global, None, string_bytes}
 use Rattle.store_folder.proofs.Written.{puts_nothing}
 use Rattle.store_encoding.specs.Names.{IsNamed, path_of}
 use Rattle.store_encoding.specs.Taken.{GoesOf}
+use Rattle.store_encoding.proofs.Digests.{changes_among, changes_one}
 use Rattle.store_encoding.proofs.Replaced.{path_is}
 use Rattle.store_encoding.proofs.Taken.{goes_named, named_at, path_added}
 use Rattle.store_encoding.proofs.removing.remove_names.Goals as goal
@@ -24,6 +25,10 @@ names-preserved g c =
     (named_at folder c.args.names.now c.names.name-index _ c.names-test.true) in
     record {
       folder = c.names.invariant.folder;
+      sums = changes_among c.args.names.now c.names.name-index _ c.names-test.true c.name-item.result (sym c.name-item.is)
+          c.args.target.now.sums c.names.target.sums c.remove.new.self (changes_one (string_bytes c.name-item.result)
+          c.as_str-in-names.result.now None c.names.target.sums c.remove.new.self c.as_str-in-names.ensures.value c.remove.ensures.others)
+          c.names.invariant.sums;
       named = path_added folder c.args.names.now c.push.new.self.items c.names.paths.items c.in_ok-path.field-0 c.name-item.result
           c.in_ok-push.ensures.items named among c.names.invariant.named;
     }

@@ -1,4 +1,6 @@
-use Rattle.std.proofs.Common.{◌≡◌, ◌∙◌, ap, refl, ℕ, List, Bor}
+use Rattle.std.proofs.Common.{◌∙◌, ap, refl, ℕ, List, Bor}
+use Rattle.store_encoding.specs.Digests.{KeepsBeside, KeepsDigests}
+use Rattle.store_encoding.proofs.Digests.{kept_of}
 use Rattle.folders.proofs.Answers.{on_ok}
 use Rattle.store_encoding.specs.Names.{IsPairOf, Replaces}
 use Rattle.store_encoding.specs.Replaced.{AllGot}
@@ -91,3 +93,17 @@ returns-clause-got g c = on_ok c.give_names-2.result
     c.args.begun.now.descriptions.items c.as_slice-4.result.now c.args.replaced.now.descriptions.items (ap (λ (f : Bor (List ℕ)).
     f.now) (c.remove_old.ensures.folder ∙ c.give_names.ensures.folder))
     c.as_slice-3.ensures.value c.as_slice-4.ensures.value _ _ got)) c.give_names-2.ensures.got
+
+pub returns-clause-sums : goal.returns-clause-sums
+returns-clause-sums g c =
+    let fragments = c.args.replaced.now.fragments.items in
+    let descriptions = c.args.replaced.now.descriptions.items in
+    on_ok c.give_names-2.result (KeepsDigests c.as_slice-4.result.now c.remove_old.new.target.sums c.give_names-2.new.target.sums)
+    (KeepsBeside c.args.replaced.now c.args.target.now.sums c.give_names-2.new.target.sums)
+    (λ last name out out_too. kept_of descriptions c.as_slice-4.result.now c.as_slice-4.ensures.value c.remove_old.new.target.sums
+    c.give_names-2.new.target.sums last name out_too
+    ∙ kept_of fragments c.as_slice-fragments.result.now c.as_slice-fragments.ensures.value c.give_names.new.target.sums
+    c.remove_old.new.target.sums c.remove_old.ensures.sums name out
+    ∙ kept_of fragments c.as_slice-fragments.result.now c.as_slice-fragments.ensures.value c.args.target.now.sums
+    c.give_names.new.target.sums c.in_ok-give_names.ensures.sums name out)
+    c.give_names-2.ensures.sums

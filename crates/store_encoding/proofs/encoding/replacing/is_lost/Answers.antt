@@ -1,4 +1,4 @@
-use Rattle.std.proofs.Common.{◌∙◌, ap, Bool, ◌∷◌, true, false}
+use Rattle.std.proofs.Common.{◌∙◌, ap, Bool, ◌∷◌, false}
 use Rattle.folders.specs.Calls.{absent}
 use Rattle.folders.proofs.NewFiles.{absent_now}
 use Rattle.folders.proofs.Runs.{keeps_quiet}

@@ -1,4 +1,4 @@
-use Rattle.std.proofs.Common.{◌≡◌, ap, refl, ℕ, List, Bor}
+use Rattle.std.proofs.Common.{ap, refl, ℕ, List, Bor}
 use Rattle.store_folder.proofs.Written.{puts_after}
 use Rattle.store_encoding.specs.Replaced.{Goes}
 use Rattle.store_encoding.proofs.Taken.{descriptions_go, fragments_go}

@@ -1,4 +1,6 @@
-use Rattle.std.proofs.Common.{◌∙◌, ◌∷◌, ◌++◌}
+use Rattle.std.proofs.Common.{◌∙◌, ◌∷◌, ◌++◌, ap}
+use Rattle.store_encoding.specs.Own.{has}
+use Rattle.store_encoding.proofs.Digests.{of_one}
 use Rattle.folders.specs.Given.{IsPair}
 use Rattle.store_encoding.specs.Names.{path_of}
 use Rattle.store_encoding.proofs.Replaced.{gives_none, kept_gives, lost_then, one_goes}
@@ -22,3 +24,7 @@ returns-clause-whenever g c = lost_then (c.args.target.now.folder.now ++ 47 ∷ 
     c.requires (g.F.Folder.calls c.args.files.now) (g.F.Folder.calls c.is_lost.new.files) _ c.is_lost.ensures.kept
     (c.in_ok-is_lost.ensures.lost c.if-not-branch.false)
     (one_goes c.args.target.now.folder.now c.args.other.now c.from_ref.result.now c.from_ref.ensures.value _ _ c.remove_names.ensures.gone)
+
+pub returns-clause-sums : goal.returns-clause-sums
+returns-clause-sums g c = λ name off. c.remove_names.ensures.sums name
+    (ap (λ names. has names name) c.from_ref.ensures.value ∙ of_one c.args.other.now name off)
