@@ -199,6 +199,8 @@ def try_leftovers(kind, one, _other, choose):
         is_whole(one / "store", whole)
 
 
+# A text that no run writes into its lock.
+NO_LOCK = "x" * 1_000
 # The lock that is there, and the commands that it keeps out.
 KEPT_OUT = {
     "part-1-of-1": [("repair",), ("repair", "--part", "1/1"), ("repair", "--part", "1/2"), ("remove", "a")],
@@ -208,9 +210,10 @@ KEPT_OUT = {
 
 
 def try_locks(kind, one, _other, choose):
-    """The file of a lock that nobody has locked here: another host's, one of a process here that works or is gone, or of nobody known."""
+    """The file of a lock that nobody has locked here: another host's, one of a process here that works or is gone, or of nobody known; and
+    a file that is no lock, which refuses the runs that need its name."""
     host, gone = socket.gethostname(), ended_process()
-    texts = {f"{gone}@{host}\n": False, f"{os.getpid()}@{host}\n": True, f"{gone}@beta\n": True, "": True, "x" * 1_000: True}
+    texts = {f"{gone}@{host}\n": False, f"{os.getpid()}@{host}\n": True, f"{gone}@beta\n": True, "": True, NO_LOCK: True}
     for text, may_work in texts.items():
         for name, commands in KEPT_OUT.items():
             for verb, *words in commands:
@@ -219,8 +222,11 @@ def try_locks(kind, one, _other, choose):
                 lock.write_text(text)
                 before = there(one / "store")
                 status, said = ended(verb, one / "store", *words)
-                what = f"{verb} {words}, {name}, {text!r}: {status}: {said}"
-                if may_work and kind in UNKNOWN:
+                what = f"{verb} {words}, {name}, {text[:99]!r}: {status}: {said}"
+                part = words[1] if "--part" in words else "1/1" if kind in UNKNOWN else ""
+                if text == NO_LOCK and name == f"part-{part.replace('/', '-of-')}":
+                    check(status == 3 and "isn't one" in said and there(one / "store") == before, what)
+                elif may_work and kind in UNKNOWN:
                     check(status == 1 and MAYBE in said and there(one / "store") == before, what)
                 else:
                     check(MAYBE not in said and HELD not in said and (verb == "remove" or status == 0), what)
