@@ -23,12 +23,12 @@ at_rest one first left mid path same (inl had) = inl (had ∙ same)
 at_rest one first left mid path same (inr got) = inr got
 
 pub both_go_on : GoesOn
-both_go_on site stripe first second w later old calls start new are path ours lasting =
+both_go_on site stripe first second w later old calls run start new rerun are path ours lasting =
     let ours_too = are.ours path ∙ ours in
     let rest = are.at_rest path ours lasting in
     let begins = are.starts path ours_too lasting in
-    let one = IsOneOf site stripe first calls in
-    let two = IsOneOf site stripe second new in
+    let one = IsOneOf site stripe first run in
+    let two = IsOneOf site stripe second rerun in
     let stopped = at_rest one (w.seen old) (w.left old) (w.left calls) path rest.1 (are.stopped path ours lasting).1 in
     let again = are.again path ours_too lasting in (
       both_kept one two (w.seen old) (w.left calls) (later.seen start) (later.seen start) (later.seen new) path begins.0 begins.0 stopped

@@ -14,20 +14,21 @@ Has w calls files =
     (path : List ℕ) → w.ours path ≡ true → (IsTemporary path → ⊥)
     → (under (w.seen calls) path ≡ under files path) × (under (w.left calls) path ≡ under files path)
 
--- A run that begins with all of its files on the disk, and that a crash ends, and another one that begins with what the crash left: each
--- keeps what is there, and may give a stripe's fragments these bytes at paths at which nothing is.
-pub record AreRuns (site : Site) (stripe : List ℕ) (first second : Given) (w later : World) (old calls start new : List Answered)
+-- A run that begins with all of its files on the disk, and that a crash ends after some of its calls, and another one that begins with what
+-- the crash left, up to any moment: each keeps what is there, and may give a stripe's fragments these bytes at paths at which nothing is.
+pub record AreRuns (site : Site) (stripe : List ℕ) (first second : Given) (w later : World) (old calls run start new rerun : List Answered)
     : Type 0 where
   pub at_rest : Has w old (w.seen old)
-  pub stopped : AreKept IsTemporary (IsOneOf site stripe first calls) w old calls
+  pub stopped : AreKept IsTemporary (IsOneOf site stripe first run) w old calls
   pub ours : (path : List ℕ) → later.ours path ≡ w.ours path
   pub starts : Has later start (w.left calls)
-  pub again : AreKept IsTemporary (IsOneOf site stripe second new) later start new
+  pub again : AreKept IsTemporary (IsOneOf site stripe second rerun) later start new
 
 -- After both each path has what it had before both, or, if it had nothing, all the bytes that one of them gave the fragment.
 abbrev pub GoesOn : Type 0
 GoesOn =
-    (site : Site) (stripe : List ℕ) (first second : Given) (w later : World) (old calls start new : List Answered)
-    → AreRuns site stripe first second w later old calls start new → (path : List ℕ) → w.ours path ≡ true → (IsTemporary path → ⊥)
-    → let given = λ (p bytes : List ℕ). IsOneOf site stripe first calls p bytes ⊎ IsOneOf site stripe second new p bytes in
+    (site : Site) (stripe : List ℕ) (first second : Given) (w later : World) (old calls run start new rerun : List Answered)
+    → AreRuns site stripe first second w later old calls run start new rerun → (path : List ℕ) → w.ours path ≡ true
+    → (IsTemporary path → ⊥)
+    → let given = λ (p bytes : List ℕ). IsOneOf site stripe first run p bytes ⊎ IsOneOf site stripe second rerun p bytes in
     IsKept given (w.seen old) (w.seen old) (later.seen new) path × IsKept given (w.seen old) (w.seen old) (later.left new) path
