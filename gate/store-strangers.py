@@ -384,6 +384,20 @@ def test_files_named_like_locks(place, choose):
         hold(not any(it.exists() for it in others), f"a lock that a run left stays: {said}")
 
 
+def test_locks_that_cannot_be_read(place, choose):
+    """An empty lock that a user's run can't read, as one of root's is, goes; another file of that name stays."""
+    how = as_user(place)
+    store = place / "unread-locks"
+    lay(store, choose)
+    store.chmod(0o777)
+    lock = store / LOCK_OF_PART
+    for data in (b"", b"minutes of a meeting\n"):
+        lock.write_bytes(data)
+        lock.chmod(0o600)
+        run("repair", store, status=3 if data else 0, **how)
+        hold(lock.exists() == bool(data), f"{data}: {'is gone' if data else 'stays'}")
+
+
 def test_locks_of_refused_runs(place, choose):
     """A repair that is refused before it begins, by the limit on files' lengths, leaves no lock of its part."""
     store = place / "refused"

@@ -1,8 +1,8 @@
 -- What is said of names that calls don't change.
-use Rattle.std.proofs.Common.{◌≡◌, ◌∙◌, ◌<◌, sym, ap, refl, cond, ℕ, Bool, true, false, List, [], ◌∷◌, length, get_or}
+use Rattle.std.proofs.Common.{◌≡◌, ◌∙◌, ◌<◌, sym, ap, refl, cond, ℕ, true, false, List, [], ◌∷◌, length, get_or}
 use Rattle.std.proofs.Common.{String, Global, string_bytes, Option, Some, None, inl, inr}
 use Rattle.std.specs.Str.{bytes_eq}
-use Rattle.std.proofs.lemmas.Bool.{cases_Bool, or_from, or_parts}
+use Rattle.std.proofs.lemmas.Bool.{cases_Bool, cond-false, or_from, or_parts}
 use Rattle.std.proofs.lemmas.List.Folds.{list_any_at}
 use Rattle.store_records.specs.Sums.{digest_in}
 use Rattle.store_records.specs.declared.sums.Sums.{Sums}
@@ -10,9 +10,6 @@ use Rattle.store_encoding.specs.Own.{has}
 use Rattle.store_encoding.specs.Digests.{KeepsBut, KeepsDigests, KeepsOthers}
 use Rattle.store_encoding.specs.Replaced.{IsTextOf, SaysOthers}
 use Rattle.store_encoding.specs.declared.encoding.stripe_files.StripeFiles.{StripeFiles}
-
-skip : (b : Bool) (x y : Option (List ℕ)) → b ≡ false → cond b x y ≡ y
-skip b x y off = rw off refl
 
 -- one of some names isn't another one that is none of them
 pub has_not : (names : List (String Global)) (name : List ℕ) → has names name ≡ false → (i : ℕ) (d : String Global) → i < length names
@@ -28,7 +25,7 @@ has_not names name out i d lt = elim (cases_Bool (bytes_eq (string_bytes (get_or
 pub changes_one : (but text : List ℕ) (content : Option (List ℕ)) (old new : Sums) → text ≡ but
     → ((other : List ℕ) → digest_in new other ≡ cond (bytes_eq text other) content (digest_in old other)) → KeepsBut but old new
 changes_one but text content old new same others name apart =
-    others name ∙ skip (bytes_eq text name) content (digest_in old name) (ap (λ t. bytes_eq t name) same ∙ apart)
+    others name ∙ cond-false (bytes_eq text name) content (digest_in old name) (ap (λ t. bytes_eq t name) same ∙ apart)
 
 -- a digest of one of some names is taken out
 pub changes_among : (names : List (String Global)) (i : ℕ) (d : String Global) → i < length names → (item : String Global)

@@ -122,9 +122,9 @@ pub enum Leftover {
 }
 
 /// Removes the regular file at a path that no run works on. Where it can't be opened or locked to see that, it is removed only if the
-/// caller knows, and a lock never.
+/// caller knows, and then if it is an unfinished one, or is empty, as locks are.
 pub fn remove_leftover(rt: &HostRuntime, path: &str, is_known_dead: bool) -> Leftover {
-    let may_be_unseen = is_known_dead && is_unfinished(last_of(path));
+    let may_be_unseen = is_known_dead && (is_unfinished(last_of(path)) || is_empty(rt, path));
     match open_regular(rt, path, Links::NotFollowed) {
         Ok(opened) => {
             match opened.file.try_lock() {
@@ -146,6 +146,11 @@ pub fn remove_leftover(rt: &HostRuntime, path: &str, is_known_dead: bool) -> Lef
         ),
         Err(error) => Leftover::Refused(error),
     }
+}
+
+/// Whether an empty regular file is at a path.
+fn is_empty(rt: &HostRuntime, path: &str) -> bool {
+    fs::symlink_metadata(rt, path).is_ok_and(|there| there.is_file() && there.len() == 0)
 }
 
 /// Whether a file that is open for reading has what runs write under its name: the bytes of an unfinished file are any, and a lock has

@@ -1,12 +1,13 @@
 -- What is given to one place after the other.
-use Rattle.std.proofs.Common.{◌≡◌, ◌∙◌, ◌<◌, ◌+◌, ℕ, List, Bool, true, false, cond, refl, sym, ap, subst, arith}
+use Rattle.std.proofs.Common.{◌≡◌, ◌∙◌, ◌<◌, ◌+◌, ℕ, List, false, refl, sym, ap, subst, arith}
 use Rattle.std.proofs.Common.{inl, inr, get_or, length, Option, Some, None, IfSome}
 use Rattle.std.specs.Prelude.{◌⊎◌, if◌then◌else◌}
-use Rattle.std.proofs.lemmas.Bool.{cases_Bool}
+use Rattle.std.proofs.lemmas.Bool.{cases_Bool, cond-true, cond-false}
 use Rattle.lrc_code.specs.declared.places.Place.{Place}
 use Rattle.lrc_code.specs.declared.codes.Code.{Code as CodeName}
 use Rattle.lrc_code.specs.Places.{same_place}
 use Rattle.lrc_code.proofs.PlaceSums.{same_place-eq, same_place-refl}
+use Rattle.store_repair.proofs.KeptLemmas.{none_fit}
 use Rattle.store_repair.specs.Changed.{ChangesAmong, GivesOneMore, IsAmong, IsMended}
 use Rattle.store_repair.specs.Kept.{FitOnly, Given, given_at, nothing}
 use Rattle.store_repair.specs.Opened.{AreApart}
@@ -17,22 +18,16 @@ abbrev pub one_more : Given → Place → Option (List ℕ) → Given
 one_more given place bytes p = if same_place place p then bytes else given p
 
 module _ (given : Given) (place : Place) (bytes : Option (List ℕ)) where
-  at_on : (same : Bool) (a b : Option (List ℕ)) → same ≡ true → cond same a b ≡ a
-  at_on same a b on = rw on refl
-
-  at_off : (same : Bool) (a b : Option (List ℕ)) → same ≡ false → cond same a b ≡ b
-  at_off same a b off = rw off refl
-
   pub more_off : (p : Place) → same_place place p ≡ false → one_more given place bytes p ≡ given p
-  more_off p off = at_off (same_place place p) bytes (given p) off
+  more_off p off = cond-false (same_place place p) bytes (given p) off
 
   pub more_on : one_more given place bytes place ≡ bytes
-  more_on = at_on (same_place place place) bytes (given place) (same_place-refl place)
+  more_on = cond-true (same_place place place) bytes (given place) (same_place-refl place)
 
   pub more_are : (p : Place) → (one_more given place bytes p ≡ given p) ⊎ ((p ≡ place) × (one_more given place bytes p ≡ bytes))
   more_are p = elim (cases_Bool (same_place place p)) as
       (λ _. (one_more given place bytes p ≡ given p) ⊎ ((p ≡ place) × (one_more given place bytes p ≡ bytes))) [
-        | inl on ↦ inr (sym (same_place-eq place p on), at_on (same_place place p) bytes (given p) on)
+        | inl on ↦ inr (sym (same_place-eq place p on), cond-true (same_place place p) bytes (given p) on)
         | inr off ↦ inl (more_off p off)
       ]
 
@@ -44,12 +39,12 @@ module _ (given : Given) (place : Place) (bytes : Option (List ℕ)) where
   ]
 
   own_at : given_at place bytes place ≡ bytes
-  own_at = at_on (same_place place place) bytes None (same_place-refl place)
+  own_at = cond-true (same_place place place) bytes None (same_place-refl place)
 
   at_among : IsAmong (given_at place bytes) (one_more given place bytes)
   at_among p b is = elim (cases_Bool (same_place place p)) as (λ _. one_more given place bytes p ≡ Some b) [
-    | inl on ↦ at_on (same_place place p) bytes (given p) on ∙ sym (at_on (same_place place p) bytes None on) ∙ is
-    | inr off ↦ absurd (let both : None ≡ Some b = sym (at_off (same_place place p) bytes None off) ∙ is in cc)
+    | inl on ↦ cond-true (same_place place p) bytes (given p) on ∙ sym (cond-true (same_place place p) bytes None on) ∙ is
+    | inr off ↦ absurd (let both : None ≡ Some b = sym (cond-false (same_place place p) bytes None off) ∙ is in cc)
   ]
 
 same_among : (given : Given) → IsAmong given given
@@ -143,16 +138,12 @@ module _ {S : Type 0} (kept : List ℕ → Given → S → S → Type 0) (change
   -- ---- a repair
 
   module _ (code : CodeName) (files : ShownFiles) (old : S) (first : changed stripe nothing old old) where
-    none_fit : (files : ShownFiles) → FitOnly code stripe files nothing
-    none_fit None = tt
-    none_fit (Some shown) = λ p. tt
-
     -- of calls that gave nothing
     pub given_none_mended : (new : S) → ((given : Given) (from : S) → kept stripe given from old → kept stripe given from new)
         → IsMended changed code stripe files old new
     given_none_mended new keeps = record {
       given = nothing;
-      fit = none_fit files;
+      fit = none_fit code stripe files;
       changes = quiet_changed nothing old old new keeps first;
     }
 

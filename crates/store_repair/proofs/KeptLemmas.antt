@@ -73,7 +73,7 @@ module _ {N : Type 0} (shown : N → Option (List ℕ)) where
       fits_all code survives len stripe old places made are.used are.only
 
 -- where nothing is given, nothing has to fit
-none_fit : (code : CodeName) (stripe : List ℕ) (files : ShownFiles) → FitOnly code stripe files nothing
+pub none_fit : (code : CodeName) (stripe : List ℕ) (files : ShownFiles) → FitOnly code stripe files nothing
 none_fit code stripe None = tt
 none_fit code stripe (Some old) = λ p. tt
 

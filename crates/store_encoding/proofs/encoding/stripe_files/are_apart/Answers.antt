@@ -1,4 +1,4 @@
-use Rattle.std.proofs.Common.{◌≡◌, ◌∙◌, ap, sym}
+use Rattle.std.proofs.Common.{◌∙◌, ap, sym}
 use Rattle.std.specs.List.{list_all}
 use Rattle.store_encoding.specs.Own.{is_own}
 use Rattle.store_encoding.proofs.Names.{apart_from, none_is}
