@@ -1,4 +1,6 @@
 //! The command `lost`: the request list of what is lost.
+ghost use Rattle.std.specs.Prelude.{◌≡◌, ◌<◌, ◌⊎◌, false, true};
+
 use crate::commands::opening_of;
 use crate::output::{say_all, say_alone};
 use std::io::{self, BufWriter, Write};
@@ -74,7 +76,11 @@ fn write_requests<'a>(
 }
 
 /// The exit status.
-fn status_of(counts: &Counts) -> u8 {
+fn status_of(counts: &Counts) -> u8
+    ensures device { counts.now.is_device ≡ true → result ≡ 3 }
+    ensures left { counts.now.is_device ≡ false → (0 < counts.now.lost) ⊎ (counts.now.is_left ≡ true) → result ≡ 1 }
+    ensures done { counts.now.is_device ≡ false → counts.now.lost ≡ 0 → counts.now.is_left ≡ false → result ≡ 0 }
+{
     if counts.is_device {
         DEVICE
     } else if counts.lost > 0 || counts.is_left {
