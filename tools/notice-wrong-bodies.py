@@ -32,6 +32,7 @@ TESTS = {
     "farm_reading": ["farm_lists_tests", "farm_files_tests"],
     "farm_files": ["farm_files_tests"],
     "store_repair": ["store_repair_tests"],
+    "stores": ["store_repair_tests"],
     "line_mode": ["line_mode_tests"],
     "command_line": ["line_mode_tests"],
 }

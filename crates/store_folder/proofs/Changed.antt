@@ -5,8 +5,8 @@ use Rattle.folders.specs.Calls.{Answered}
 use Rattle.folders.proofs.ChangeRuns.{changes_exchanged, changes_kept}
 use Rattle.folders.proofs.Exchanges.{not_on, some_bytes}
 use Rattle.lrc_code.specs.declared.places.Place.{Place}
-use Rattle.store_repair.specs.Kept.{Given}
-use Rattle.store_repair.proofs.GivenLemmas.{more_among, more_are, more_on, one_more}
+use Rattle.stores.specs.Kept.{Given}
+use Rattle.stores.proofs.GivenLemmas.{more_among, more_are, more_on, one_more}
 use Rattle.store_folder.specs.declared.site.Site.{Site}
 use Rattle.store_folder.specs.Changed.{IsChangedIn, IsGivenAt}
 use Rattle.store_folder.specs.ChangedOver.{no_second, one_place}

@@ -19,7 +19,7 @@ use Rattle.store_folder.specs.Done.{HasFolderOf, HaveFoldersOf, IsDue, IsNamed, 
 use Rattle.store_folder.specs.Kept.{IsTemporary, KeepsEach}
 use Rattle.store_folder.specs.Stays.{lasts}
 use Rattle.store_folder.specs.Temporary.{is_temporary}
-use Rattle.store_repair.specs.Kept.{StaysOver}
+use Rattle.stores.specs.Kept.{StaysOver}
 
 -- the last of the folders, or another
 has_last : (path : List ℕ) (front : List (String Global)) (last : String Global) → HasFolderOf path (front ++ last ∷ [])

@@ -7,7 +7,7 @@ use Rattle.folders.proofs.Runs.{keeps_after, keeps_weaker}
 use Rattle.std.proofs.Common.{Option, ◌∙◌}
 use Rattle.folders.specs.Placed.{IsGiven}
 use Rattle.lrc_code.specs.declared.places.Place.{Place}
-use Rattle.store_repair.specs.Kept.{Given}
+use Rattle.stores.specs.Kept.{Given}
 use Rattle.store_folder.specs.declared.site.Site.{Site}
 use Rattle.store_folder.specs.Kept.{GivesIn, IsFragment, IsKeptIn, IsOneOf, IsPathOf, IsTemporary, GivesOne, KeepsEach}
 

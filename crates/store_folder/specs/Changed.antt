@@ -3,7 +3,7 @@ use Rattle.std.specs.Prelude.{◌≡◌, ℕ, List, Some}
 use Rattle.folders.specs.Calls.{Answered}
 use Rattle.folders.specs.Changed.{Changes}
 use Rattle.lrc_code.specs.declared.places.Place.{Place}
-use Rattle.store_repair.specs.Kept.{Given}
+use Rattle.stores.specs.Kept.{Given}
 use Rattle.store_folder.specs.declared.links.Links.TheVariants.{NotFollowed}
 use Rattle.store_folder.specs.declared.site.Site.{Site}
 use Rattle.store_folder.specs.Kept.{IsPathOf, IsTemporary}

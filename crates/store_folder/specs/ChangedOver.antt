@@ -14,8 +14,8 @@ use Rattle.store_names.specs.Temporary.{is_free}
 use Rattle.store_names.specs.Texts.{lacks}
 use Rattle.store_names.proofs.Distinct.{names_differ}
 use Rattle.store_names.proofs.Marks.{not_both}
-use Rattle.store_repair.specs.Changed.{IsAmong}
-use Rattle.store_repair.specs.Kept.{Given, nothing}
+use Rattle.stores.specs.Changed.{IsAmong}
+use Rattle.stores.specs.Kept.{Given, nothing}
 use Rattle.store_folder.specs.declared.links.Links.TheVariants.{NotFollowed}
 use Rattle.store_folder.specs.declared.site.Site.{Site}
 use Rattle.store_folder.specs.Changed.{IsChangedIn, IsGivenAt}

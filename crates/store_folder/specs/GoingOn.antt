@@ -4,7 +4,7 @@ use Rattle.folders.specs.Calls.{Answered}
 use Rattle.folders.specs.Files.{Files, under}
 use Rattle.folders.specs.Kept.{AreKept, IsKept}
 use Rattle.folders.specs.Worlds.{World}
-use Rattle.store_repair.specs.Kept.{Given}
+use Rattle.stores.specs.Kept.{Given}
 use Rattle.store_folder.specs.declared.site.Site.{Site}
 use Rattle.store_folder.specs.Kept.{IsOneOf, IsTemporary}
 

@@ -8,7 +8,7 @@ use Rattle.folders.specs.Placed.{IsGiven, WasSynced}
 use Rattle.folders.proofs.Runs.{keeps_all}
 use Rattle.lrc_code.specs.declared.places.Place.{Place}
 use Rattle.store_names.specs.Names.{IsNameOf}
-use Rattle.store_repair.specs.Kept.{Given}
+use Rattle.stores.specs.Kept.{Given}
 use Rattle.store_folder.specs.declared.links.Links.TheVariants.{NotFollowed}
 use Rattle.store_folder.specs.declared.site.Site.{Site}
 use Rattle.store_folder.specs.Temporary.{is_temporary}

@@ -6,7 +6,7 @@ use Rattle.folders.specs.Disk.{IsOnDisk}
 use Rattle.folders.specs.Kept.{Keeps}
 use Rattle.folders.specs.Placed.{WasRefused}
 use Rattle.folders.proofs.Staying.{on_disk_over, refused_over}
-use Rattle.store_repair.specs.Kept.{Given, StaysOver}
+use Rattle.stores.specs.Kept.{Given, StaysOver}
 use Rattle.store_folder.specs.declared.site.Site.{Site}
 use Rattle.store_folder.specs.Done.{IsSettled}
 use Rattle.store_folder.specs.Kept.{IsKeptIn, IsTemporary}

@@ -7,7 +7,7 @@ use sha256_lanes::HasherOfEight;
 use std::alloc::{AllocError, Global};
 use std::io;
 use store_records::Digest;
-use store_repair::Fragment;
+use stores::Fragment;
 
 /// How many bytes of a file are read at once: whole blocks of SHA-256.
 const BLOCK: usize = 262_144;

@@ -10,7 +10,7 @@ ghost use Rattle.store_folder.specs.Done.{HasFolderOf, HaveFoldersOf, IsDue, IsN
 ghost use Rattle.store_folder.specs.Kept.{GivesIn, GivesOne, IsKeptIn, IsPathOf, KeepsEach, none_kept};
 ghost use Rattle.store_folder.specs.Stays.{settled_over};
 ghost use Rattle.store_folder.specs.Temporary.{is_temporary};
-ghost use Rattle.store_repair.specs.Store.{never};
+ghost use Rattle.stores.specs.Store.{never};
 
 use crate::digesting::digest_of;
 use crate::links::{Links, followed_in, refuse_linked_in, status_at};
@@ -25,7 +25,7 @@ use lrc_code::Place;
 use std::alloc::{AllocError, Global};
 use std::io::{self, ErrorKind};
 use store_names::{is_free, path_in};
-use store_repair::{NameFault, Placed, Refused, Store};
+use stores::{NameFault, Placed, Refused, Store};
 
 /// A store in a folder, as one thread works in it. Whenever one of its calls ends, by a crash or by itself, each path of the folder has
 /// what it had, or all the bytes of a file that was put on the disk.

@@ -49,7 +49,7 @@ pub use store_names::{
     tag_of_part,
 };
 pub use store_records::{Described, Digest, MOST_BYTES, Sums, SumsFault, digits_of};
-pub use store_repair::{Found, Placed, StripeFiles};
+pub use stores::{Found, Placed, StripeFiles};
 pub use stripe_names::{Alone, Others, StoreStripes, StripeNames};
 pub use sums::{SUMS_NAME, read_sums};
 pub use surviving::{FileFragment, open_fragment};

@@ -9,7 +9,7 @@ use crate::unfinished_file::UnfinishedFile;
 use folders::Folder;
 use lrc_code::Place;
 use std::alloc::{AllocError, Global};
-use store_repair::Refused;
+use stores::Refused;
 
 impl<F: Folder> FolderStore<'_, F> {
     /// Whether the store's sums say a digest of a stripe's fragment at a place.

@@ -9,7 +9,7 @@ use std::collections::BTreeSet;
 use std::fs::{self, Metadata};
 use std::io::{self, ErrorKind};
 use store_names::{disk_folders, is_ambiguous, is_of_runs, last_of, path_in};
-use store_repair::Found;
+use stores::Found;
 
 /// The folder that a file system keeps for what it finds of lost files: no store's, and no stripe's.
 const LOST_AND_FOUND: &str = "lost+found";

@@ -11,7 +11,7 @@ use std::alloc::Global;
 use std::fs::{self, Metadata};
 use std::io::{self, ErrorKind};
 use std::os::unix::fs::MetadataExt;
-use store_repair::{NewFragment, Placed};
+use stores::{NewFragment, Placed};
 
 /// The rights of a new file that nobody but its user may read.
 pub(crate) const PRIVATE: u32 = 0o600;

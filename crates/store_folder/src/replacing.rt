@@ -14,7 +14,7 @@ use lrc_code::Place;
 use std::alloc::Global;
 use std::io::{self, ErrorKind};
 use store_names::{KEPT, is_free};
-use store_repair::Placed;
+use stores::Placed;
 
 impl<F: Folder> FolderStore<'_, F> {
     /// Gives a fragment the name of one that is there, which is kept under its second name; if one is kept there already, the new one is

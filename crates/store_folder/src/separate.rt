@@ -8,7 +8,7 @@ ghost use Rattle.store_folder.specs.Done.{IsNamed, IsSettled};
 ghost use Rattle.store_folder.specs.Kept.{IsKeptIn, KeepsEach, none_kept};
 ghost use Rattle.store_folder.specs.Stays.{settled_over};
 ghost use Rattle.std.proofs.Props.{props};
-ghost use Rattle.store_repair.specs.Store.{never};
+ghost use Rattle.stores.specs.Store.{never};
 
 use crate::folder_store::FolderStore;
 use crate::surviving::FileFragment;
@@ -17,7 +17,7 @@ use folders::{Folder, NewFile, Written};
 use lrc_code::Place;
 use std::alloc::{AllocError, Global};
 use std::io;
-use store_repair::{NameFault, NewFragment, Placed, Refused, Store};
+use stores::{NameFault, NewFragment, Placed, Refused, Store};
 
 /// A store whose new fragments fail each by itself.
 #[derive(Drop)]

@@ -4,7 +4,7 @@ use std::alloc::{AllocError, Global};
 use std::collections::{BTreeMap, BTreeSet};
 use store_names::Part;
 use store_records::MOST_BYTES;
-use store_repair::{Found, StripeFiles};
+use stores::{Found, StripeFiles};
 
 /// A stripe that nothing else names has so many fragments at least: a file alone may have such a name by chance.
 const LEAST_FRAGMENTS: usize = 2;

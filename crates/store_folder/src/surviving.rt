@@ -5,7 +5,7 @@ use crate::links::Links;
 use crate::regular::open_in;
 use folders::{Folder, OpenFile, Status, SystemFolder, SystemOpen};
 use std::io::{self, ErrorKind};
-use store_repair::Fragment;
+use stores::Fragment;
 
 /// A fragment in a file that is open for reading. An error of the kind `ResourceBusy` says that the file was changed since then.
 #[derive(Drop)]

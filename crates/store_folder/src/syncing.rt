@@ -11,7 +11,7 @@ ghost use Rattle.std.specs.Str.{bytes_eq};
 
 use folders::Folder;
 use std::alloc::{AllocError, Global};
-use store_repair::NameFault;
+use stores::NameFault;
 
 /// The folders in which names were given since the last time that these were written to the disk.
 #[derive(Drop)]

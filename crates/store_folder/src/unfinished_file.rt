@@ -12,7 +12,7 @@ use sha2::{Digest as _, Sha256};
 use std::alloc::AllocError;
 use std::io::{self, ErrorKind};
 use store_records::Digest;
-use store_repair::NewFragment;
+use stores::NewFragment;
 
 /// A fragment that has no name yet.
 #[derive(Drop)]

@@ -21,7 +21,7 @@ use Rattle.lrc_code.proofs.Combinations.{combination-append}
 use Rattle.lrc_code.proofs.Encodings.{data_of, encoding, parity_rows}
 use Rattle.store_repair.specs.Files.{encoding_rows, fragment_length, FragmentsAreOfFile, IsFragmentOf}
 use Rattle.store_repair.specs.Files.{IsFragmentShown, part, parts, unit_row}
-use Rattle.store_repair.specs.Mended.{IsEmpty}
+use Rattle.stores.specs.Shown.{IsEmpty}
 use Rattle.store_repair.specs.Windows.{IsAppended}
 use Rattle.store_repair.proofs.FileLemmas.{length-part, part_at}
 use Rattle.store_repair.proofs.ReadingLemmas.{combination_unit}

@@ -8,7 +8,7 @@ use Rattle.std.proofs.lemmas.List.{get_or_past}
 use Rattle.std.proofs.lemmas.List.{length-append, length-drop, length-replicate, length-take}
 use Rattle.std.proofs.lemmas.List.FromFn.{get_or-map-range_with_len, length-map-range_with_len}
 use Rattle.store_repair.specs.Files.{part}
-use Rattle.store_repair.specs.Shown.{IsReadAt}
+use Rattle.stores.specs.Shown.{IsReadAt}
 
 pub length-part : (file : List ℕ) (from many : ℕ) → length (part file from many) ≡ many
 length-part file from many = length-map-range_with_len (λ k. get_or file (from + k) 0) 0 many

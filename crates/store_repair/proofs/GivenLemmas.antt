@@ -1,51 +1,18 @@
 -- What is given to one place after the other.
 use Rattle.std.proofs.Common.{◌≡◌, ◌∙◌, ◌<◌, ◌+◌, ℕ, List, false, refl, sym, ap, subst, arith}
 use Rattle.std.proofs.Common.{inl, inr, get_or, length, Option, Some, None, IfSome}
-use Rattle.std.specs.Prelude.{◌⊎◌, if◌then◌else◌}
-use Rattle.std.proofs.lemmas.Bool.{cases_Bool, cond-true, cond-false}
 use Rattle.lrc_code.specs.declared.places.Place.{Place}
 use Rattle.lrc_code.specs.declared.codes.Code.{Code as CodeName}
 use Rattle.lrc_code.specs.Places.{same_place}
-use Rattle.lrc_code.proofs.PlaceSums.{same_place-eq, same_place-refl}
+use Rattle.lrc_code.proofs.PlaceSums.{same_place-refl}
 use Rattle.store_repair.proofs.KeptLemmas.{none_fit}
-use Rattle.store_repair.specs.Changed.{ChangesAmong, GivesOneMore, IsAmong, IsMended}
-use Rattle.store_repair.specs.Kept.{FitOnly, Given, given_at, nothing}
+use Rattle.stores.specs.Changed.{GivesOneMore, IsAmong}
+use Rattle.store_repair.specs.Changed.{ChangesAmong, IsMended}
+use Rattle.stores.specs.Kept.{Given, given_at, nothing}
+use Rattle.store_repair.specs.Kept.{FitOnly}
 use Rattle.store_repair.specs.Opened.{AreApart}
-use Rattle.store_repair.specs.Store.{ShownFiles}
-
--- what is given, and this at a place
-abbrev pub one_more : Given → Place → Option (List ℕ) → Given
-one_more given place bytes p = if same_place place p then bytes else given p
-
-module _ (given : Given) (place : Place) (bytes : Option (List ℕ)) where
-  pub more_off : (p : Place) → same_place place p ≡ false → one_more given place bytes p ≡ given p
-  more_off p off = cond-false (same_place place p) bytes (given p) off
-
-  pub more_on : one_more given place bytes place ≡ bytes
-  more_on = cond-true (same_place place place) bytes (given place) (same_place-refl place)
-
-  pub more_are : (p : Place) → (one_more given place bytes p ≡ given p) ⊎ ((p ≡ place) × (one_more given place bytes p ≡ bytes))
-  more_are p = elim (cases_Bool (same_place place p)) as
-      (λ _. (one_more given place bytes p ≡ given p) ⊎ ((p ≡ place) × (one_more given place bytes p ≡ bytes))) [
-        | inl on ↦ inr (sym (same_place-eq place p on), cond-true (same_place place p) bytes (given p) on)
-        | inr off ↦ inl (more_off p off)
-      ]
-
-  -- what was given before is, if the place was given nothing
-  pub more_among : given place ≡ None → IsAmong given (one_more given place bytes)
-  more_among none p b is = elim (cases_Bool (same_place place p)) as (λ _. one_more given place bytes p ≡ Some b) [
-    | inl on ↦ absurd (let both : None ≡ Some b = sym none ∙ ap given (same_place-eq place p on) ∙ is in cc)
-    | inr off ↦ more_off p off ∙ is
-  ]
-
-  own_at : given_at place bytes place ≡ bytes
-  own_at = cond-true (same_place place place) bytes None (same_place-refl place)
-
-  at_among : IsAmong (given_at place bytes) (one_more given place bytes)
-  at_among p b is = elim (cases_Bool (same_place place p)) as (λ _. one_more given place bytes p ≡ Some b) [
-    | inl on ↦ cond-true (same_place place p) bytes (given p) on ∙ sym (cond-true (same_place place p) bytes None on) ∙ is
-    | inr off ↦ absurd (let both : None ≡ Some b = sym (cond-false (same_place place p) bytes None off) ∙ is in cc)
-  ]
+use Rattle.stores.specs.Store.{ShownFiles}
+use Rattle.stores.proofs.GivenLemmas.{at_among, more_among, more_are, one_more, own_at}
 
 same_among : (given : Given) → IsAmong given given
 same_among given p b is = is

@@ -9,12 +9,13 @@ use Rattle.lrc_code.specs.declared.places.Place.{Place}
 use Rattle.lrc_code.specs.declared.codes.Code.{Code as CodeName}
 use Rattle.lrc_code.specs.Places.{same_place}
 use Rattle.lrc_code.proofs.PlaceSums.{same_place-eq, same_place-refl}
-use Rattle.store_repair.specs.Kept.{AreDone, FitOnly, Given, IsRepaired, StaysOver, given_by, nothing}
+use Rattle.stores.specs.Kept.{Given, StaysOver, nothing}
+use Rattle.store_repair.specs.Kept.{AreDone, FitOnly, IsRepaired, given_by}
 use Rattle.store_repair.specs.Opened.{AreApart, AreMade, AreOnlyOnes, IsOnlyOne}
 use Rattle.store_repair.specs.Repaired.{IsPlaced}
-use Rattle.store_repair.specs.Store.{Files, ShownFiles}
-use Rattle.store_repair.specs.declared.store.Placed.{Placed as PlacedName}
-use Rattle.store_repair.specs.declared.store.Placed.TheVariants as placed
+use Rattle.stores.specs.Store.{Files, ShownFiles}
+use Rattle.stores.specs.declared.store.Placed.{Placed as PlacedName}
+use Rattle.stores.specs.declared.store.Placed.TheVariants as placed
 
 module _ {N : Type 0} (shown : N → Option (List ℕ)) where
   own : (same : Bool) (a b : Option (List ℕ)) → same ≡ true → cond same a b ≡ a

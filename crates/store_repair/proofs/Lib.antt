@@ -20,4 +20,3 @@ pub mod FileLemmas
 pub mod GivenLemmas
 pub mod ReadingLemmas
 pub mod EncodingLemmas
-pub mod MemoryLemmas

@@ -15,8 +15,8 @@ use Rattle.lrc_code.specs.Sets.{is_in}
 use Rattle.lrc_code.proofs.PlaceSums.{index_of-lt, place_at}
 use Rattle.lrc_plan.specs.Stripes.{at_place, AreWhole}
 use Rattle.store_repair.specs.Opened.{AreOpened, IsOpenedAt, IsThereWith, nth_place}
-use Rattle.store_repair.specs.Shown.{AreShown, shown_of}
-use Rattle.store_repair.specs.Store.{Files, ShownFiles}
+use Rattle.stores.specs.Shown.{AreShown, shown_of}
+use Rattle.stores.specs.Store.{Files, ShownFiles}
 
 zero_of : (a b : ℕ) → a ≤ b → a - b ≡ 0
 zero_of a b le = omega (arith, le)

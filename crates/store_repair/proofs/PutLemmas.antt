@@ -10,9 +10,9 @@ use Rattle.lrc_code.specs.declared.codes.Code.{Code as CodeName}
 use Rattle.lrc_code.specs.Places.{same_place}
 use Rattle.lrc_code.proofs.PlaceSums.{same_place-eq}
 use Rattle.store_repair.specs.Repaired.{MayReplace, OnlyReplaces, SameBeside}
-use Rattle.store_repair.specs.Store.{AreUntouched, Files, SameElsewhere, ShownFiles}
+use Rattle.stores.specs.Store.{AreUntouched, Files, SameElsewhere, ShownFiles}
 use Rattle.store_repair.specs.declared.outcomes.Finding.{Finding}
-use Rattle.store_repair.specs.declared.stripes.Found.{Found as FoundName}
+use Rattle.stores.specs.declared.stripes.Found.{Found as FoundName}
 
 -- what may be replaced was asked for and is checked
 pub asked : (r : Bool) (code : CodeName) (set : Place → Bool) (c : Bool) (len : ℕ) (files : List FoundName) (findings : List Finding)

@@ -19,9 +19,9 @@ use Rattle.store_repair.specs.Damage.{all_but}
 use Rattle.store_repair.specs.Mended.{AreLost, IsMended, IsMendedStripe}
 use Rattle.store_repair.specs.Opened.{AreApart, AreMade, AreOnlyOnes, AreOpened, AreRebuilt, IsOnlyOne, IsOpenedAt, IsPutOf}
 use Rattle.store_repair.specs.Opened.{IsRebuiltAt, nth_place}
-use Rattle.store_repair.specs.Shown.{AreShown}
-use Rattle.store_repair.specs.Store.{AreUntouched, Files, HasName, IsUntouched, SameElsewhere, ShownFiles}
-use Rattle.store_repair.specs.declared.store.Placed.TheVariants as placed
+use Rattle.stores.specs.Shown.{AreShown}
+use Rattle.stores.specs.Store.{AreUntouched, Files, HasName, IsUntouched, SameElsewhere, ShownFiles}
+use Rattle.stores.specs.declared.store.Placed.TheVariants as placed
 use Rattle.store_repair.proofs.ScrubLemmas.{of_one_stripe}
 use Rattle.store_repair.proofs.OpenedLemmas.{are_from, are_shown, are_whole, at}
 

@@ -10,8 +10,8 @@ use Rattle.lrc_plan.specs.Stripes.{at_place, AreWhole, IsPossible}
 use Rattle.store_repair.specs.Damage.{IsLocated}
 use Rattle.store_repair.specs.Opened.{AreOpened}
 use Rattle.store_repair.specs.Scrubbed.{AreOfOneStripe, damaged_by, IsDamagedFragment, said_damaged}
-use Rattle.store_repair.specs.Shown.{AreShown}
-use Rattle.store_repair.specs.Store.{Files, ShownFiles}
+use Rattle.stores.specs.Shown.{AreShown}
+use Rattle.stores.specs.Store.{Files, ShownFiles}
 use Rattle.store_repair.specs.declared.outcomes.Finding.{Finding}
 use Rattle.store_repair.proofs.OpenedLemmas.{are_from, are_shown, are_whole, at}
 

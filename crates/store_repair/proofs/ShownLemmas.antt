@@ -12,7 +12,7 @@ use Rattle.store_repair.specs.Findings.{named}
 use Rattle.store_repair.specs.Losses.{AreHeld, IsCovered}
 use Rattle.store_repair.specs.Opened.{IsPutOf}
 use Rattle.store_repair.specs.Repaired.{IsAccountedFor, IsShown, IsShownOrAll}
-use Rattle.store_repair.specs.Store.{ShownFiles}
+use Rattle.stores.specs.Store.{ShownFiles}
 use Rattle.store_repair.specs.declared.making.Made.{Made}
 use Rattle.store_repair.specs.declared.outcomes.Finding.{Finding}
 use Rattle.store_repair.proofs.NamedLemmas.{named_append}

@@ -14,9 +14,9 @@ use Rattle.store_repair.specs.Mended.{AreLost}
 use Rattle.store_repair.specs.Opened.{AreMade, AreRebuilt, IsRebuiltAt}
 use Rattle.store_repair.specs.Repaired.{HasCause, IsAccountedFor, IsWhole, MayReplace, OnlyReplaces, SameBeside}
 use Rattle.store_repair.specs.Scrubbed.{AreOfOneStripe, said_damaged}
-use Rattle.store_repair.specs.Store.{Files, ShownFiles}
+use Rattle.stores.specs.Store.{Files, ShownFiles}
 use Rattle.store_repair.specs.declared.outcomes.Finding.{Finding}
-use Rattle.store_repair.specs.declared.stripes.Found.{Found as FoundName}
+use Rattle.stores.specs.declared.stripes.Found.{Found as FoundName}
 use Rattle.store_repair.proofs.NamedLemmas.{damaged_append, differing_append, mended_named, named_append}
 
 -- ---- what is replaced

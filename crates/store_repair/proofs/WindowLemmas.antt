@@ -6,7 +6,7 @@ use Rattle.std.proofs.lemmas.List.{get_or-map, get_or_past, length-map}
 use Rattle.lrc_field.specs.declared.terms.Term.{Term}
 use Rattle.lrc_field.specs.Combined.{HaveLength, Reach}
 use Rattle.lrc_field.specs.Terms.{HaveLengthWhereUsed}
-use Rattle.store_repair.specs.Shown.{AreShown, shown_of}
+use Rattle.stores.specs.Shown.{AreShown, shown_of}
 use Rattle.store_repair.specs.Windows.{HaveOrNone}
 
 -- lists that have so many bytes or none have so many where they are used

@@ -1,5 +1,5 @@
 -- How many bytes the fragments of a stripe have.
-use Rattle.std.specs.Prelude.{◌≡◌, ◌⊎◌, ◌<◌, ℕ, List, Bool, true, Option, Some, None, IfSome, All, Contains, slice_index_or}
+use Rattle.std.specs.Prelude.{◌≡◌, ◌⊎◌, ◌<◌, ℕ, List, Bool, true, Option, Some, None, IfSome, slice_index_or}
 use Rattle.lrc_code.specs.declared.places.Place.{Place}
 use Rattle.lrc_code.specs.declared.codes.Code.{Code as CodeName}
 use Rattle.lrc_code.specs.Code.{has_place}
@@ -7,24 +7,12 @@ use Rattle.lrc_code.specs.Codes.{tables_of}
 use Rattle.lrc_code.specs.Places.{index_of}
 use Rattle.store_repair.specs.Losses.{AreChecked}
 use Rattle.store_repair.specs.Scrubbed.{AreOfOneStripe}
-use Rattle.store_repair.specs.Store.{Files, ShownFiles}
+use Rattle.stores.specs.Store.{Files, ShownFiles}
 use Rattle.store_repair.specs.declared.lengths.StripeLength.{StripeLength}
 use Rattle.store_repair.specs.declared.lengths.StripeLength.TheVariants as stripe_length
-use Rattle.store_repair.specs.declared.stripes.Found.{Found as FoundName}
-use Rattle.store_repair.specs.declared.stripes.Found.TheVariants as found
-
--- what was found, if it is a file, has so many bytes
-abbrev pub HasLength : ℕ → FoundName → Type 0
-HasLength len found.Absent = Unit {0}
-HasLength len (found.File length) = length ≡ len
-HasLength len found.Dangling = Unit {0}
-HasLength len found.Other = Unit {0}
-HasLength len (found.Unknown code) = Unit {0}
-
--- a length that each file among what was found has, and that one has
-pub record IsLengthOf (files : List FoundName) (len : ℕ) : Type 0 where
-  pub each : All (HasLength len) files
-  pub some : Contains files (found.File len)
+use Rattle.stores.specs.declared.stripes.Found.{Found as FoundName}
+use Rattle.stores.specs.declared.stripes.Found.TheVariants as found
+use Rattle.stores.specs.Stripes.{HasLength}
 
 -- what was found at a place of the code, if it is a file, has so many bytes
 abbrev pub HasLengthAt : CodeName → List FoundName → ℕ → Place → Type 0

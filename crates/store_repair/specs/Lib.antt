@@ -1,9 +1,7 @@
-pub mod Shown
 pub mod Windows
 pub mod Mended
 pub mod Changed
 pub mod Damage
-pub mod Store
 pub mod Losses
 pub mod Findings
 pub mod Opened
@@ -12,4 +10,3 @@ pub mod Repaired
 pub mod Scrubbed
 pub mod Lengths
 pub mod Files
-pub mod Memory

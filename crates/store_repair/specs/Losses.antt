@@ -1,39 +1,12 @@
 -- What is lost of a stripe, and what shows of the rest.
-use Rattle.std.specs.Prelude.{◌≡◌, ◌⊎◌, ℕ, List, All, Bool, true, false, ◌<◌, ◌^◌, ◌==◌, not, slice_index, slice_index_or}
+use Rattle.std.specs.Prelude.{◌≡◌, ◌⊎◌, ℕ, List, All, Bool, true, false, ◌<◌, ◌^◌, slice_index}
 use Rattle.lrc_code.specs.declared.codes.Code.{Code as CodeName}
 use Rattle.lrc_code.specs.Code.{has_place, IsInCode}
 use Rattle.lrc_code.specs.Codes.{tables_of}
 use Rattle.lrc_code.specs.Sums.{GivesBytes}
 use Rattle.lrc_plan.specs.Planned.{Extends, ExtensionsDiffer}
 use Rattle.lrc_code.specs.declared.places.Place.{Place}
-use Rattle.lrc_code.specs.Places.{index_of}
 use Rattle.store_repair.specs.Damage.{all_but, IsDetermined, without}
-use Rattle.store_repair.specs.declared.stripes.Found.{Found as FoundName}
-use Rattle.store_repair.specs.declared.stripes.Found.TheVariants as found
-
--- whether what was found is a file of so many bytes
-abbrev pub is_file : ℕ → FoundName → Bool
-is_file len found.Absent = false
-is_file len (found.File length) = length == len
-is_file len found.Dangling = false
-is_file len found.Other = false
-is_file len (found.Unknown code) = false
-
--- whether there is a file of so many bytes at a place; what was found is listed by the places' indexes
-abbrev pub has_file : List FoundName → ℕ → Place → Bool
-has_file files len p = is_file len (slice_index_or files (index_of p) found.Absent)
-
--- whether what was found is a file of another length
-abbrev pub is_other_file : ℕ → FoundName → Bool
-is_other_file len found.Absent = false
-is_other_file len (found.File length) = not (length == len)
-is_other_file len found.Dangling = false
-is_other_file len found.Other = false
-is_other_file len (found.Unknown code) = false
-
--- whether there is a file of another length at a place
-abbrev pub has_other_file : List FoundName → ℕ → Place → Bool
-has_other_file files len p = is_other_file len (slice_index_or files (index_of p) found.Absent)
 
 -- some bytes at the survivors' places are those of no stripe, so that damage may show
 abbrev pub CanContradict : CodeName → (Place → Bool) → Type 0

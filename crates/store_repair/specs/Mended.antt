@@ -1,5 +1,5 @@
 -- What mending a stripe leaves.
-use Rattle.std.specs.Prelude.{◌≡◌, ◌<◌, ℕ, List, [], length, slice_index_or, All, Bool, true, false, Option, Some, None}
+use Rattle.std.specs.Prelude.{◌≡◌, ◌<◌, ℕ, List, length, slice_index_or, All, Bool, true, false, Option, Some, None}
 use Rattle.lrc_code.specs.declared.places.Place.{Place}
 use Rattle.lrc_code.specs.declared.codes.Code.{Code as CodeName}
 use Rattle.lrc_code.specs.Code.{has_place}
@@ -9,16 +9,13 @@ use Rattle.lrc_plan.specs.Planned.{ExtensionsDiffer}
 use Rattle.lrc_plan.specs.RowPlans.{IsValueRow}
 use Rattle.store_repair.specs.declared.mending.MendFault.{MendFault}
 use Rattle.store_repair.specs.declared.mending.MendFault.TheVariants as fault
+use Rattle.stores.specs.Shown.{IsEmpty}
 
 -- places of the code that don't survive
 abbrev pub AreLost : CodeName → (Place → Bool) → List Place → Type 0
 AreLost code survives places = All (λ p. (has_place (tables_of code) p ≡ true) × (survives p ≡ false)) places
 
--- nothing is written in a file that is shown
-abbrev pub IsEmpty : Option (List ℕ) → Type 0
-IsEmpty None = Unit
-IsEmpty (Some bytes) = bytes ≡ []
-
+-- nothing is written in any file that is shown
 abbrev pub AreEmpty : {N : Type 0} → (N → Option (List ℕ)) → List N → Type 0
 AreEmpty shown files = All (λ file. IsEmpty (shown file)) files
 

@@ -11,8 +11,8 @@ use Rattle.lrc_code.specs.Sets.{is_in}
 use Rattle.lrc_plan.specs.Stripes.{at_place, IsRebuilt}
 use Rattle.store_repair.specs.Mended.{AreLost}
 use Rattle.store_repair.specs.Scrubbed.{AreOfOneStripe}
-use Rattle.store_repair.specs.Store.{Files, HasName, IsOpened, ShownFiles}
-use Rattle.store_repair.specs.declared.store.Placed.TheVariants as placed
+use Rattle.stores.specs.Store.{Files, HasName, IsOpened, ShownFiles}
+use Rattle.stores.specs.declared.store.Placed.TheVariants as placed
 
 -- the place of an index
 abbrev pub nth_place : ℕ → Place

@@ -4,15 +4,16 @@ use Rattle.store_repair.specs.declared.making.Attempt.TheVariants as attempt
 use Rattle.store_repair.specs.declared.making.Made.{Made}
 use Rattle.store_repair.specs.declared.putting.Way.{Way}
 use Rattle.store_repair.specs.declared.putting.Way.TheVariants as way
-use Rattle.store_repair.specs.declared.store.Placed.{Placed as PlacedName}
-use Rattle.store_repair.specs.declared.store.Placed.TheVariants as placed
+use Rattle.stores.specs.declared.store.Placed.{Placed as PlacedName}
+use Rattle.stores.specs.declared.store.Placed.TheVariants as placed
 use Rattle.std.specs.declared.io.Error.{Error}
 use Rattle.store_repair.specs.declared.outcomes.Finding.{Finding}
-use Rattle.store_repair.specs.declared.stripes.Found.{Found as FoundName}
+use Rattle.stores.specs.declared.stripes.Found.{Found as FoundName}
 use Rattle.store_repair.specs.Findings.{named, said_differing}
-use Rattle.store_repair.specs.Losses.{AreCovered, has_other_file, IsCovered}
+use Rattle.stores.specs.Stripes.{has_other_file}
+use Rattle.store_repair.specs.Losses.{AreCovered, IsCovered}
 use Rattle.store_repair.specs.Scrubbed.{AreOfOneStripe, said_damaged}
-use Rattle.store_repair.specs.Store.{ShownFiles}
+use Rattle.stores.specs.Store.{ShownFiles}
 use Rattle.lrc_code.specs.declared.places.Place.{Place}
 use Rattle.lrc_code.specs.declared.codes.Code.{Code as CodeName}
 use Rattle.lrc_code.specs.Code.{has_place}

@@ -7,7 +7,7 @@ use Rattle.lrc_code.specs.Codes.{tables_of}
 use Rattle.lrc_plan.specs.Stripes.{at_place}
 use Rattle.store_repair.specs.Damage.{IsLocated}
 use Rattle.store_repair.specs.Findings.{named_by}
-use Rattle.store_repair.specs.Store.{Files}
+use Rattle.stores.specs.Store.{Files}
 use Rattle.store_repair.specs.declared.damage.Damage.{Damage}
 use Rattle.store_repair.specs.declared.damage.Damage.TheVariants as damage
 use Rattle.store_repair.specs.declared.outcomes.Finding.{Finding}

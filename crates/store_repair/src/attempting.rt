@@ -3,7 +3,7 @@ ghost use Rattle.std.specs.Prelude.{◌≡◌, IfOk, IfSome, true};
 ghost use Rattle.store_repair.specs.declared.settings.Reads.TheVariants.{Checked as ReadsChecked};
 ghost use Rattle.store_repair.specs.Losses.{AreChecked, AreHeld};
 ghost use Rattle.lrc_code.specs.Sets.{is_in};
-ghost use Rattle.store_repair.specs.Kept.{Given};
+ghost use Rattle.stores.specs.Kept.{Given};
 ghost use Rattle.store_repair.specs.Opened.{AreMade};
 ghost use Rattle.store_repair.specs.Repaired.{IsShown};
 
@@ -11,10 +11,9 @@ use crate::fewest::{OpenedFew, is_shown, open_fewest};
 use crate::making::{Attempt, Made, discard_all, make_from};
 use crate::outcomes::{Finding, Reason};
 use crate::settings::{Reads, Repair};
-use crate::store::Store;
-use crate::stripes::Stripe;
 use lrc_code::{Place, PlaceSet};
 use std::alloc::{AllocError, Global};
+use stores::{Store, Stripe};
 
 /// Makes files for the lost fragments from as few survivors as a repair reads; none where all have to be read: one of the few can't be
 /// opened or read, they contradict each other, or damage of them wouldn't show.

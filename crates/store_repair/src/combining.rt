@@ -1,16 +1,16 @@
 //! Combinations of fragments: sums of products of their bytes, written to files in one pass over the fragments.
 ghost use Rattle.std.specs.Prelude.{◌≡◌, ◌≤◌, ℕ, List, length, IfErr, IfOk, OnOk};
 ghost use Rattle.store_repair.specs.Mended.{IsOfSystem};
-ghost use Rattle.store_repair.specs.Shown.{AreShown};
+ghost use Rattle.stores.specs.Shown.{AreShown};
 ghost use Rattle.store_repair.specs.Windows.{AreAppended, window as window_of};
 
 use crate::mending::MendFault;
-use crate::store::{Fragment, NewFragment};
 use crate::windows::{
     Buffers, FileError, WINDOW, Window, append_sums, read_window, rooms_for, slices_of,
 };
 use lrc_field::Gf;
 use std::alloc::{AllocError, Global};
+use stores::{Fragment, NewFragment};
 
 /// Appends to each file the combination by the row at its index of the first bytes of the fragments, `many` of them.
 pub(crate) fn append_combined<F: Fragment, N: NewFragment>(

@@ -3,12 +3,12 @@ ghost use Rattle.std.specs.Prelude.{◌≡◌, ℕ, List, length, IfOk, None};
 ghost use Rattle.lrc_code.specs.Sets.{is_in};
 ghost use Rattle.lrc_plan.specs.Stripes.{AreWhole};
 ghost use Rattle.store_repair.specs.Mended.{IsConsistency};
-ghost use Rattle.store_repair.specs.Shown.{AreShown};
+ghost use Rattle.stores.specs.Shown.{AreShown};
 
 use crate::mending::{MendFault, Survivors, mend};
-use crate::store::{Fragment, NewFragment};
 use std::alloc::Global;
 use std::io;
+use stores::{Fragment, NewFragment};
 
 /// No file: a check of survivors writes nothing.
 #[derive(Drop)]

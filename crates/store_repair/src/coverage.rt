@@ -11,8 +11,8 @@ ghost use Rattle.store_repair.specs.Losses.{IsCovered, IsOpenToTwo, IsRightDespi
 
 use crate::damage::without;
 use crate::losses::determine;
-use crate::stripes::nth_place;
 use lrc_code::{Code, Place, PlaceSet};
+use stores::nth_place;
 
 /// Whether a lost fragment is covered: without any two of the survivors the others determine it. So it is rebuilt right, from survivors
 /// that belong together, though two of them are damaged. Where one fragment of a stripe is lost, or one of each group, parities among

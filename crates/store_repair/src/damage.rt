@@ -7,16 +7,15 @@ ghost use Rattle.lrc_code.specs.Sets.{is_in};
 ghost use Rattle.lrc_plan.specs.Stripes.{AreWhole, IsContradiction, at_place};
 ghost use Rattle.store_repair.specs.Damage.{AreFits, AreSuspects, FitWithout, IsCleared, IsDamage, IsDamaged, IsFit};
 ghost use Rattle.store_repair.specs.Damage.{IsOneDetermined, all_but, without};
-ghost use Rattle.store_repair.specs.Shown.{AreShown};
+ghost use Rattle.stores.specs.Shown.{AreShown};
 
 use crate::consistency::are_consistent;
 use crate::losses::determine;
 use crate::mending::{MendFault, Survivors};
-use crate::store::Fragment;
-use crate::stripes::nth_place;
 use lrc_code::{Code, Place, PlaceSet};
 use std::alloc::Global;
 use std::fmt::{self, Display, Formatter, Write};
+use stores::{Fragment, nth_place};
 
 /// Where survivors of a stripe are damaged, as far as that can be told.
 #[derive(Clone, Copy, Debug, PartialEq, Eq)]

@@ -8,10 +8,10 @@ ghost use Rattle.store_repair.specs.Mended.{AreEmpty, IsOfSystem};
 use crate::combining::append_combined;
 use crate::mending::MendFault;
 use crate::parts::{FilePart, fragment_length, parts_of};
-use crate::store::{Fragment, NewFragment};
 use lrc_code::Code;
 use lrc_field::Gf;
 use std::alloc::{AllocError, Global};
+use stores::{Fragment, NewFragment};
 
 /// Writes the fragments of a file's stripe in one pass over the file, each into the new file at the index of its place among the code's.
 /// The data fragments are the file's parts, in their order, with 00 after its end. A file that can't be read is said to be `Unread`, with

@@ -5,7 +5,8 @@ ghost use Rattle.lrc_code.specs.Codes.{tables_of};
 ghost use Rattle.store_repair.specs.declared.settings.Reads.TheVariants.{All as ReadsAll};
 ghost use Rattle.lrc_code.specs.declared.places.Place.{Place};
 ghost use Rattle.store_repair.specs.Damage.{IsDetermined};
-ghost use Rattle.store_repair.specs.Losses.{AreCovered, AreHeld, has_file};
+ghost use Rattle.stores.specs.Stripes.{has_file};
+ghost use Rattle.store_repair.specs.Losses.{AreCovered, AreHeld};
 ghost use Rattle.lrc_code.specs.Sets.{is_in};
 ghost use Rattle.store_repair.specs.Opened.{AreOpened};
 
@@ -15,11 +16,10 @@ use crate::losses::{have_checks, is_determined, lost_places};
 use crate::opening::{Opened, open_all, open_survivors};
 use crate::outcomes::Finding;
 use crate::settings::{Reads, Repair};
-use crate::store::Store;
-use crate::stripes::{Stripe, nth_place};
 use lrc_code::{Code, Group, Place, PlaceSet};
 use lrc_plan::reduce_by_lost;
 use std::alloc::{AllocError, Global};
+use stores::{Found, Store, Stripe, StripeFiles, nth_place};
 
 /// The few survivors of a stripe that are read, open.
 #[derive(Drop)]
@@ -60,7 +60,7 @@ pub(crate) fn open_fewest<S: Store>(
     };
     let read = Stripe {
         name: stripe.name,
-        files: stripe.files.only(few.set),
+        files: only(&stripe.files, few.set),
     };
     let opened = if few.are_digested {
         open_survivors(alloc, store, repair.code, &read, length, noted)?
@@ -71,6 +71,17 @@ pub(crate) fn open_fewest<S: Store>(
         return Ok(None);
     }
     Ok(Some(OpenedFew { opened, listed }))
+}
+
+/// A stripe's files, with nothing under the names of the places that aren't in a set.
+fn only(files: &StripeFiles, set: PlaceSet) -> StripeFiles {
+    let mut own = *files;
+    for place in &Place::ALL {
+        if !set.has(*place) {
+            own.found[place.index()] = Found::Absent;
+        }
+    }
+    own
 }
 
 /// The places at which the store knows digests of a stripe's fragments.

@@ -11,18 +11,18 @@ ghost use Rattle.lrc_plan.specs.RowPlans.{IsValueRow};
 ghost use Rattle.lrc_plan.specs.Stripes.{AreWhole};
 ghost use Rattle.store_repair.specs.Files.{AreOfFile, fragment_length};
 ghost use Rattle.store_repair.specs.Mended.{IsOfSystem, IsRefused};
-ghost use Rattle.store_repair.specs.Shown.{AreShown, shown_of};
+ghost use Rattle.stores.specs.Shown.{AreShown, shown_of};
 ghost use Rattle.store_repair.specs.Windows.{IsAppended, used_in};
 
 use crate::combining::append_combined;
 use crate::encoding::unit_row;
 use crate::mending::{MendFault, Survivors};
-use crate::store::{Fragment, NewFragment};
 use lrc_code::{Code, Place, PlaceSet, Reduced};
 use lrc_field::Gf;
 use lrc_plan::{reduce_by_lost, value_from};
 use std::alloc::{AllocError, Global};
 use std::{io, slice};
+use stores::{Fragment, NewFragment};
 
 /// Appends a file of so many bytes to `output`, from the survivors of its stripe. Of those that aren't its parts only what the lost parts
 /// need is read, so damage shows nowhere: what was written is to be held to a digest. `Several` has the index of a lost part.
@@ -118,12 +118,4 @@ fn fragment_of<'f, F: Fragment>(coefficient: Gf, fragment: &'f Option<F>) -> Opt
         return None;
     }
     fragment.as_ref()
-}
-
-impl<F: Fragment> Fragment for &F {
-    ghost shown = { λ f. F.shown f.now };
-
-    fn read_at(&self, from: usize, bytes: &mut [u8]) -> io::Result<()> {
-        (**self).read_at(from, bytes)
-    }
 }

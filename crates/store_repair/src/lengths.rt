@@ -9,10 +9,9 @@ use crate::losses::are_checked;
 use crate::mending::{MendFault, Survivors};
 use crate::opening::open_survivors;
 use crate::outcomes::{Finding, Reason, note, note_no_survivor};
-use crate::store::Store;
-use crate::stripes::{Found, Stripe, StripeFiles, is_in_common, nth_place};
 use lrc_code::{Code, Place};
 use std::alloc::{AllocError, Global};
+use stores::{Found, Store, Stripe, StripeFiles, is_in_common, nth_place};
 
 /// How many bytes each fragment of a stripe has.
 #[derive(Debug, Drop)]

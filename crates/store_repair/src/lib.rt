@@ -16,7 +16,6 @@ mod length_groups;
 mod lengths;
 mod losses;
 mod making;
-mod memory;
 mod mending;
 mod opening;
 mod outcomes;
@@ -26,8 +25,6 @@ mod putting;
 mod repairing;
 mod scrubbing;
 mod settings;
-mod store;
-mod stripes;
 mod windows;
 
 pub use consistency::are_consistent;
@@ -39,7 +36,6 @@ pub use file_reading::read_file;
 pub use length_groups::{LengthGroup, Lengths};
 pub use lengths::{StripeLength, stripe_length};
 pub use losses::{LostPlaces, have_checks, lost_places};
-pub use memory::{MemoryFragment, MemoryStore};
 pub use mending::{MendFault, Survivors, mend};
 pub use opening::{Opened, open_survivors};
 pub use outcomes::{Finding, Reason, StripeOutcome};
@@ -48,5 +44,7 @@ pub use planning::plan_stripe;
 pub use repairing::repair_stripe;
 pub use scrubbing::scrub_stripe;
 pub use settings::{Reads, Repair};
-pub use store::{Fragment, NameFault, NewFragment, Placed, Refused, Store};
-pub use stripes::{Found, Stripe, StripeFiles};
+pub use stores::{
+    Found, Fragment, MemoryFragment, MemoryStore, NameFault, NewFragment, Placed, Refused, Store,
+    Stripe, StripeFiles,
+};

@@ -11,11 +11,11 @@ ghost use Rattle.store_repair.specs.Losses.{AreChecked, CanContradict, HasAny, H
 ghost use Rattle.store_repair.specs.Mended.{AreLost};
 ghost use Rattle.store_repair.specs.Opened.{AreApart};
 
-use crate::stripes::nth_place;
 use lrc_code::{Code, Place, PlaceSet, Reduced};
 use lrc_field::Gf;
 use lrc_plan::{check_rows, reduce_by_lost, value_from};
 use std::alloc::{AllocError, Global};
+use stores::nth_place;
 
 /// The places of a code that don't survive, in the order of their indexes.
 #[derive(Debug, Drop)]

@@ -6,9 +6,10 @@ ghost use Rattle.lrc_code.specs.Code.{has_place};
 ghost use Rattle.lrc_code.specs.Codes.{tables_of};
 ghost use Rattle.store_repair.specs.Findings.{named};
 ghost use Rattle.store_repair.specs.declared.settings.Reads.TheVariants.{All as ReadsAll, Few as ReadsFew};
-ghost use Rattle.store_repair.specs.Losses.{AreChecked, has_file};
+ghost use Rattle.stores.specs.Stripes.{has_file};
+ghost use Rattle.store_repair.specs.Losses.{AreChecked};
 ghost use Rattle.lrc_code.specs.Sets.{is_in};
-ghost use Rattle.store_repair.specs.Kept.{Given, StaysOver};
+ghost use Rattle.stores.specs.Kept.{Given, StaysOver};
 ghost use Rattle.store_repair.specs.Mended.{AreEmpty};
 ghost use Rattle.store_repair.specs.Opened.{AreMade, AreOpened};
 ghost use Rattle.store_repair.specs.Repaired.{IfMade, IfNotMade, IsAccountedFor, IsNotMade};
@@ -19,10 +20,9 @@ use crate::mending::{MendFault, Survivors, mend};
 use crate::opening::{Opened, leave_out};
 use crate::outcomes::{Finding, Reason, note, read_fault, write_fault};
 use crate::settings::{Reads, Repair};
-use crate::store::{Fragment, Store};
-use crate::stripes::Stripe;
 use lrc_code::{Place, PlaceSet};
 use std::alloc::{AllocError, Global};
+use stores::{Fragment, Store, Stripe};
 
 /// Rebuilt fragments that have no names yet: the survivors that they are made from, whether these are checked, and a file for each place.
 #[derive(Drop)]

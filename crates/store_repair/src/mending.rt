@@ -6,10 +6,9 @@ ghost use Rattle.lrc_plan.specs.RowPlans.{AreCheckRows};
 ghost use Rattle.lrc_plan.specs.Stripes.{AreWhole};
 ghost use Rattle.store_repair.specs.declared.mending.MendFault.TheVariants.{OutOfMemory};
 ghost use Rattle.store_repair.specs.Mended.{AreEmpty, AreLost, AreValueRows, IsMendedStripe, IsOfSystem, IsRefused};
-ghost use Rattle.store_repair.specs.Shown.{AreShown};
+ghost use Rattle.stores.specs.Shown.{AreShown};
 ghost use Rattle.store_repair.specs.Windows.{IsMendedWindow, window as window_of};
 
-use crate::store::{Fragment, NewFragment};
 use crate::windows::{
     Buffers, FileError, WINDOW, Window, append_sums, are_zero, read_window, rooms_for, slices_of,
 };
@@ -18,6 +17,7 @@ use lrc_field::Gf;
 use lrc_plan::{checks_from, reduce_by_lost, value_from};
 use std::alloc::{AllocError, AllocFailed, Global};
 use std::io;
+use stores::{Fragment, NewFragment};
 use thiserror::Error;
 
 /// Why a stripe isn't mended.

@@ -10,10 +10,9 @@ ghost use Rattle.store_repair.specs.Scrubbed.{said_damaged};
 
 use crate::damage::without;
 use crate::outcomes::{Finding, note, read_fault};
-use crate::store::{Refused, Store};
-use crate::stripes::{Stripe, nth_place};
 use lrc_code::{Code, Place, PlaceSet};
 use std::alloc::{AllocError, Global};
+use stores::{Refused, Store, Stripe, nth_place};
 
 /// The fragments of a stripe that could be opened.
 #[derive(Drop)]

@@ -9,11 +9,10 @@ ghost use Rattle.store_repair.specs.Scrubbed.{damaged_by, said_damaged};
 use crate::coverage::is_covered;
 use crate::damage::Suspects;
 use crate::length_groups::Lengths;
-use crate::store::NameFault;
-use crate::stripes::{Found, Stripe};
 use lrc_code::{Code, Place, PlaceSet};
 use std::alloc::{AllocError, Global};
 use std::io::{self, ErrorKind};
+use stores::{Found, NameFault, Stripe};
 use thiserror::Error;
 
 /// Why a fragment, or a stripe, isn't as it should be.

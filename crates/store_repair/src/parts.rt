@@ -2,12 +2,12 @@
 ghost use Rattle.std.specs.Prelude.{◌≡◌, ◌≤◌, ◌-◌, ◌++◌, ℕ, List, length, map, take, drop, replicate, IfOk, OnOk, Some, option_map};
 ghost use Rattle.lrc_code.specs.Codes.{data_count};
 ghost use Rattle.store_repair.specs.Files.{fragment_length, part, parts};
-ghost use Rattle.store_repair.specs.Shown.{shown_of};
+ghost use Rattle.stores.specs.Shown.{shown_of};
 
-use crate::store::Fragment;
 use lrc_code::Code;
 use std::alloc::{AllocError, Global};
 use std::io::{self, ErrorKind};
+use stores::Fragment;
 
 /// Some bytes of a file from a position on, with 00 after its end.
 #[derive(Drop)]

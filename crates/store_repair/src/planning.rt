@@ -16,9 +16,8 @@ use crate::making::{note_all, to_be_rebuilt};
 use crate::opening::{Opened, open_survivors};
 use crate::outcomes::{Finding, StripeOutcome};
 use crate::settings::{Reads, Repair};
-use crate::store::Store;
-use crate::stripes::Stripe;
 use std::alloc::{AllocError, Global};
+use stores::{Store, Stripe};
 
 /// What a repair of a stripe would do: the places whose fragments it would rebuild, if the survivors that can be opened don't contradict
 /// each other, and what it couldn't: the survivors are those that it would open, which determine each of these places, and each other place

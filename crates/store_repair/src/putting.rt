@@ -3,12 +3,14 @@ ghost use Rattle.std.specs.Prelude.{◌≡◌, ◌≢◌, ◌&&◌, ◌++◌, �
 ghost use Rattle.lrc_code.specs.declared.places.Place.{Place};
 ghost use Rattle.lrc_code.specs.Sets.{is_in};
 ghost use Rattle.store_repair.specs.Findings.{is_unsettled, named};
-ghost use Rattle.store_repair.specs.Changed.{ChangesAmong, GivesOneMore};
-ghost use Rattle.store_repair.specs.Kept.{Given, StaysOver, given_by, nothing};
+ghost use Rattle.stores.specs.Changed.{GivesOneMore};
+ghost use Rattle.store_repair.specs.Changed.{ChangesAmong};
+ghost use Rattle.stores.specs.Kept.{Given, StaysOver, nothing};
+ghost use Rattle.store_repair.specs.Kept.{given_by};
 ghost use Rattle.store_repair.specs.Opened.{AreApart, IsPutOf};
 ghost use Rattle.store_repair.specs.Repaired.{HasCause, IsPlaced, MayReplace, OnlyReplaces, SameBeside, is_silent, replaces};
-ghost use Rattle.store_repair.specs.Store.{AreUntouched, HasName, SameElsewhere};
-ghost use Rattle.store_repair.specs.declared.store.Placed.TheVariants as placed;
+ghost use Rattle.stores.specs.Store.{AreUntouched, HasName, SameElsewhere};
+ghost use Rattle.stores.specs.declared.store.Placed.TheVariants as placed;
 
 use crate::coverage::is_covered;
 use crate::making::{Made, discard};
@@ -16,11 +18,10 @@ use crate::outcomes::{
     Finding, Reason, is_named, is_said_damaged, is_said_to_differ, note, write_fault,
 };
 use crate::settings::Repair;
-use crate::store::{Placed, Store};
-use crate::stripes::{Found, Stripe};
 use lrc_code::{Place, PlaceSet};
 use std::alloc::{AllocError, Global};
 use std::io;
+use stores::{Found, Placed, Store, Stripe};
 
 /// What is done with a rebuilt fragment.
 #[derive(Drop)]

@@ -5,11 +5,12 @@ ghost use Rattle.store_repair.specs.declared.settings.Reads.TheVariants.{All as 
 ghost use Rattle.store_repair.specs.Findings.{AreAllMended, is_unsettled};
 ghost use Rattle.store_repair.specs.Repaired.{IsAccountedFor, IsShownOrAll, IsWhole, MayReplace, OnlyReplaces};
 ghost use Rattle.store_repair.specs.Changed.{IsMended};
-ghost use Rattle.store_repair.specs.Kept.{AreDone, Given, IsRepaired};
+ghost use Rattle.stores.specs.Kept.{Given};
+ghost use Rattle.store_repair.specs.Kept.{AreDone, IsRepaired};
 ghost use Rattle.store_repair.specs.Losses.{AreChecked};
 ghost use Rattle.lrc_code.specs.Sets.{is_in};
 ghost use Rattle.store_repair.specs.Opened.{AreMade, AreRebuilt};
-ghost use Rattle.store_repair.specs.Store.{AreUntouched};
+ghost use Rattle.stores.specs.Store.{AreUntouched};
 
 use crate::attempting::make_from_fewest;
 use crate::lengths::length_or_note;
@@ -18,9 +19,8 @@ use crate::opening::open_survivors;
 use crate::outcomes::{Finding, Reason, StripeOutcome, note_unknown};
 use crate::putting::{Known, put_all, settle};
 use crate::settings::{Reads, Repair};
-use crate::store::Store;
-use crate::stripes::Stripe;
 use std::alloc::{AllocError, Global};
+use stores::{Store, Stripe};
 
 /// Repairs a stripe. A survivor that is known to be damaged or can't be read is left out, and the others are tried again. Where survivors
 /// contradict each other and it isn't known which are damaged, nothing is rebuilt.

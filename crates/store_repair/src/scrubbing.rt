@@ -7,7 +7,7 @@ ghost use Rattle.store_repair.specs.declared.damage.Damage.TheVariants.{Nowhere}
 ghost use Rattle.store_repair.specs.Damage.{IsLocated};
 ghost use Rattle.store_repair.specs.Losses.{CanContradict};
 ghost use Rattle.store_repair.specs.Scrubbed.{AreOfOneStripe, IsDamagedFragment, damaged_at, said_damaged};
-ghost use Rattle.store_repair.specs.Shown.{AreShown};
+ghost use Rattle.stores.specs.Shown.{AreShown};
 
 use crate::damage::{Damage, find_damaged};
 use crate::lengths::length_or_note;
@@ -15,10 +15,9 @@ use crate::losses::have_checks;
 use crate::mending::{MendFault, Survivors};
 use crate::opening::open_survivors;
 use crate::outcomes::{Finding, Reason, StripeOutcome, note, read_fault};
-use crate::store::{Fragment, Store};
-use crate::stripes::Stripe;
 use lrc_code::{Code, Place};
 use std::alloc::{AllocError, Global};
+use stores::{Fragment, Store, Stripe};
 
 /// Tests a stripe. A fragment is said to be damaged only where it is so whatever at most two of those that were opened hold; and where
 /// nothing is said, and the stripe is checked, those that were opened are of one stripe of the code.

@@ -2,13 +2,13 @@
 ghost use Rattle.std.specs.Prelude.{◌↔◌, ◌≡◌, ◌≢◌, ◌<◌, ℕ, List, length, map, take, drop, OnOk, IfOk, Some};
 ghost use Rattle.std.specs.Bool.{IsTrue};
 ghost use Rattle.lrc_plan.specs.Stripes.{AreZeroRows, IsZeroRow};
-ghost use Rattle.store_repair.specs.Shown.{AreShown, shown_of};
+ghost use Rattle.stores.specs.Shown.{AreShown, shown_of};
 ghost use Rattle.store_repair.specs.Windows.{AreAppended, HaveOrNone, IsAppended, window};
 
-use crate::store::{Fragment, NewFragment};
 use lrc_field::{Gf, combine_into, no_terms, sums_are_zero, terms_in};
 use std::alloc::{AllocError, Global};
 use std::io;
+use stores::{Fragment, NewFragment};
 
 /// How many bytes of each fragment a window has.
 pub(crate) const WINDOW: usize = 65_536;

@@ -1,5 +1,5 @@
 use Rattle.std.proofs.Common.{◌≡◌, ◌≤◌, ◌-◌, ℕ, List, length}
-use Rattle.store_repair.specs.Shown.{AreShown}
+use Rattle.stores.specs.Shown.{AreShown}
 use Rattle.store_repair.specs.Windows.{AreAppended}
 use Rattle.store_repair.proofs.combining.append_combined.Given as goal
 

@@ -2,7 +2,7 @@ use Rattle.std.proofs.Common.{ℕ, List}
 use Rattle.lrc_code.specs.Sets.{is_in}
 use Rattle.lrc_plan.specs.Stripes.{AreWhole}
 use Rattle.store_repair.specs.Damage.{IsDamagedBefore}
-use Rattle.store_repair.specs.Shown.{AreShown}
+use Rattle.stores.specs.Shown.{AreShown}
 use Rattle.store_repair.proofs.damage.fits_without_one.Given as goal
 
 abbrev pub invariant-loop-index : goal.invariant-loop-index

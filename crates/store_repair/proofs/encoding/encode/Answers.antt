@@ -3,7 +3,7 @@ use Rattle.std.specs.Prelude.{OnOk, option_map}
 use Rattle.std.proofs.lemmas.Result.{on_ok_weaker}
 use Rattle.lrc_code.specs.Codes.{tables_of}
 use Rattle.store_repair.specs.Files.{encoding_rows, fragment_length, part, parts}
-use Rattle.store_repair.specs.Shown.{shown_of}
+use Rattle.stores.specs.Shown.{shown_of}
 use Rattle.store_repair.specs.Windows.{AreAppended}
 use Rattle.store_repair.proofs.EncodingLemmas.{bytes, fragment_shown, rows_many}
 use Rattle.store_repair.proofs.encoding.encode.Goals as goal

@@ -1,7 +1,7 @@
 use Rattle.std.proofs.Common.{◌∙◌, ap, get_or, subst, sym, arith, ◌++◌}
 use Rattle.std.specs.Prelude.{option_map}
 use Rattle.std.proofs.lemmas.Result.{on_ok_weaker}
-use Rattle.store_repair.specs.Shown.{AreShown}
+use Rattle.stores.specs.Shown.{AreShown}
 use Rattle.store_repair.specs.Windows.{used_in}
 use Rattle.store_repair.proofs.CombiningLemmas.{parity_used}
 use Rattle.store_repair.proofs.file_reading.append_part.Goals as goal

@@ -2,7 +2,7 @@ use Rattle.std.proofs.Common.{◌≡◌, ◌∙◌, ◌+◌, ◌<◌, ◌∷◌,
 use Rattle.std.specs.Prelude.{nat_eq, if◌then◌else◌}
 use Rattle.std.proofs.lemmas.Bool.{cases_lt}
 use Rattle.std.proofs.lemmas.List.{get_or_append_left, get_or_default, get_or_push, get_or_read, length_push}
-use Rattle.store_repair.specs.Shown.{shown_of}
+use Rattle.stores.specs.Shown.{shown_of}
 use Rattle.store_repair.specs.Windows.{used_in}
 use Rattle.store_repair.proofs.CombiningLemmas.{bytes_used, length-used, used_at}
 use Rattle.store_repair.proofs.WindowLemmas.{map_alike, shown_at, shown_length}

@@ -1,5 +1,5 @@
 use Rattle.std.proofs.Common.{◌≡◌, ◌<◌, ℕ, List, Some, get_or, length}
-use Rattle.store_repair.specs.Shown.{AreShown, shown_of}
+use Rattle.stores.specs.Shown.{AreShown, shown_of}
 use Rattle.store_repair.specs.Windows.{used_in}
 use Rattle.store_repair.proofs.file_reading.fragments_of.Given as goal
 

@@ -3,7 +3,7 @@ use Rattle.std.specs.Prelude.{option_map}
 use Rattle.lrc_code.specs.Sets.{is_in}
 use Rattle.lrc_plan.specs.Stripes.{AreWhole}
 use Rattle.store_repair.specs.Files.{AreOfFile}
-use Rattle.store_repair.specs.Shown.{AreShown}
+use Rattle.stores.specs.Shown.{AreShown}
 use Rattle.store_repair.proofs.file_reading.read_file.Given as goal
 
 abbrev pub invariant-loop-index : goal.invariant-loop-index

@@ -1,7 +1,7 @@
 use Rattle.std.proofs.Common.{◌≡◌, arith, length, subst, sym}
 use Rattle.lrc_code.specs.Sets.{is_in}
 use Rattle.store_repair.specs.Mended.{IsConsistency}
-use Rattle.store_repair.specs.Shown.{AreShown}
+use Rattle.stores.specs.Shown.{AreShown}
 use Rattle.store_repair.proofs.LengthLemmas.{confirmed}
 use Rattle.store_repair.proofs.ScrubLemmas.{of_one_stripe}
 use Rattle.store_repair.proofs.lengths.is_confirmed.Goals as goal

@@ -1,5 +1,5 @@
 use Rattle.std.proofs.Common.{◌≡◌, ◌≢◌, ℕ, List, [], vec_len}
-use Rattle.store_repair.specs.Kept.{Given}
+use Rattle.stores.specs.Kept.{Given}
 use Rattle.store_repair.proofs.making.discard_all.Given as goal
 
 abbrev pub invariant-files : goal.invariant-files

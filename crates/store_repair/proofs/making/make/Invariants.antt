@@ -1,6 +1,6 @@
 use Rattle.std.proofs.Common.{◌≡◌, ◌≢◌, ◌<◌, [], length}
 use Rattle.store_repair.specs.Opened.{AreOpened}
-use Rattle.store_repair.specs.Kept.{Given}
+use Rattle.stores.specs.Kept.{Given}
 use Rattle.store_repair.proofs.making.make.Given as goal
 
 abbrev pub invariant-attempts : goal.invariant-attempts

@@ -6,7 +6,7 @@ use Rattle.lrc_code.specs.declared.places.Place.{Place}
 use Rattle.std.proofs.lemmas.List.{with_items_is, places}
 use Rattle.lrc_code.specs.Sets.{is_in}
 use Rattle.store_repair.specs.Mended.{IsMendedStripe}
-use Rattle.store_repair.specs.Shown.{AreShown}
+use Rattle.stores.specs.Shown.{AreShown}
 use Rattle.store_repair.proofs.RepairLemmas.{are_made}
 use Rattle.store_repair.proofs.making.make_from.Goals as goal
 

@@ -1,6 +1,6 @@
 use Rattle.std.proofs.Common.{◌≡◌, ◌≤◌, ◌-◌, length, vec_len}
 use Rattle.store_repair.specs.Mended.{AreEmpty}
-use Rattle.store_repair.specs.Kept.{Given}
+use Rattle.stores.specs.Kept.{Given}
 use Rattle.store_repair.proofs.making.new_files.Given as goal
 
 abbrev pub invariant-files : goal.invariant-files

@@ -2,7 +2,7 @@ use Rattle.std.proofs.Common.{◌≡◌, ◌∙◌, ℕ, List, [], true, get_or,
 use Rattle.lrc_code.specs.Sets.{is_in}
 use Rattle.lrc_plan.specs.Stripes.{AreZeroRows}
 use Rattle.lrc_plan.proofs.Stripes.{contradiction, possible}
-use Rattle.store_repair.specs.Shown.{AreShown}
+use Rattle.stores.specs.Shown.{AreShown}
 use Rattle.store_repair.specs.Windows.{IsMendedWindow, IsWritten, window}
 use Rattle.store_repair.proofs.MendLemmas.{mended_file, written_more, zero_more, zero_window}
 use Rattle.store_repair.proofs.WindowLemmas.{shown_length}

@@ -1,5 +1,5 @@
 use Rattle.std.proofs.Common.{◌≡◌, ◌≤◌, ◌-◌, ℕ, List, length}
-use Rattle.store_repair.specs.Shown.{AreShown}
+use Rattle.stores.specs.Shown.{AreShown}
 use Rattle.store_repair.specs.Windows.{AreWritten, AreZeroBefore}
 use Rattle.store_repair.proofs.mending.mend.Given as goal
 

@@ -5,7 +5,7 @@ use Rattle.std.proofs.lemmas.List.FromFn.{map-range_with_len_more}
 use Rattle.std.specs.List.{range_with_len}
 use Rattle.lrc_code.specs.Codes.{data_count}
 use Rattle.store_repair.specs.Files.{part}
-use Rattle.store_repair.specs.Shown.{shown_of}
+use Rattle.stores.specs.Shown.{shown_of}
 use Rattle.store_repair.proofs.FileLemmas.{part_capped}
 use Rattle.store_repair.proofs.parts.parts_of.Goals as goal
 

@@ -1,7 +1,7 @@
 use Rattle.std.proofs.Common.{◌≡◌, ◌*◌, ℕ, List, length, map, take, Some, option_map}
 use Rattle.std.specs.List.{range_with_len}
 use Rattle.store_repair.specs.Files.{part}
-use Rattle.store_repair.specs.Shown.{shown_of}
+use Rattle.stores.specs.Shown.{shown_of}
 use Rattle.store_repair.proofs.parts.parts_of.Given as goal
 
 abbrev pub invariant-loop-index : goal.invariant-loop-index

@@ -2,12 +2,13 @@ use Rattle.std.specs.Prelude.{◌&&◌}
 use Rattle.std.proofs.Common.{◌≡◌, ◌<◌, ◌≤◌, ℕ, All, false, get_or, length, vec_len}
 use Rattle.lrc_code.specs.declared.places.Place.{Place}
 use Rattle.lrc_code.specs.Places.{same_place}
-use Rattle.store_repair.specs.Kept.{given_by, nothing}
+use Rattle.stores.specs.Kept.{nothing}
+use Rattle.store_repair.specs.Kept.{given_by}
 use Rattle.store_repair.specs.Opened.{IsPutOf}
 use Rattle.lrc_code.specs.Sets.{is_in}
 use Rattle.store_repair.specs.Findings.{named}
 use Rattle.store_repair.specs.Repaired.{MayReplace, OnlyReplaces, SameBeside}
-use Rattle.store_repair.specs.Store.{AreUntouched}
+use Rattle.stores.specs.Store.{AreUntouched}
 use Rattle.store_repair.proofs.GivenLemmas.{AreGivenFrom}
 use Rattle.store_repair.proofs.PutLemmas.{IsSaid}
 use Rattle.store_repair.proofs.putting.put_all.Given as goal

@@ -7,7 +7,7 @@ use Rattle.store_repair.proofs.NamedLemmas.{none_mended, settled_later}
 use Rattle.store_repair.proofs.WholeLemmas.{is_whole, may_later, replaces_weaker}
 use Rattle.lrc_code.specs.Sets.{is_in}
 use Rattle.store_repair.specs.Opened.{AreMade}
-use Rattle.store_repair.specs.Store.{AreUntouched}
+use Rattle.stores.specs.Store.{AreUntouched}
 use Rattle.store_repair.specs.Kept.{given_by}
 use Rattle.store_repair.proofs.GivenLemmas.{given_none_mended, given_some_mended}
 use Rattle.store_repair.proofs.KeptLemmas.{are_fit, none_done, none_given, off_with, some_done, some_given}

@@ -1,7 +1,7 @@
 use Rattle.std.proofs.Common.{◌≡◌, ◌∙◌, ap, arith, length, subst, sym}
 use Rattle.lrc_code.specs.Sets.{is_in}
 use Rattle.store_repair.specs.Scrubbed.{IsDamagedFragment, said_damaged}
-use Rattle.store_repair.specs.Shown.{AreShown}
+use Rattle.stores.specs.Shown.{AreShown}
 use Rattle.store_repair.proofs.ScrubLemmas.{damaged_fragments, none_said, of_one_stripe}
 use Rattle.store_repair.proofs.scrubbing.scrub_stripe.Goals as goal
 

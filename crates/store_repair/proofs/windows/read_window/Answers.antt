@@ -2,7 +2,7 @@ use Rattle.std.proofs.Common.{◌≡◌, ◌<◌, length, get_or, set, take, dro
 use Rattle.std.proofs.lemmas.Bool.{cases_lt}
 use Rattle.std.proofs.lemmas.List.{get_or-set_other, get_or-set_same, get_or_read}
 use Rattle.std.proofs.lemmas.List.Elements.{All-map}
-use Rattle.store_repair.specs.Shown.{shown_of}
+use Rattle.stores.specs.Shown.{shown_of}
 use Rattle.store_repair.proofs.WindowLemmas.{map_alike, shown_at, shown_length}
 use Rattle.store_repair.proofs.windows.read_window.Goals as goal
 

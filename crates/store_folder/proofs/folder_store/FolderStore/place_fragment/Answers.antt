@@ -3,7 +3,7 @@ use Rattle.store_folder.specs.Digests.{IsAsListed}
 use Rattle.store_folder.specs.Done.{HasFolderOf, IsNamed}
 use Rattle.store_folder.specs.Kept.{GivesIn, IsPathOf}
 use Rattle.store_folder.specs.Temporary.{is_temporary}
-use Rattle.store_repair.specs.declared.store.Placed.TheVariants as outcome
+use Rattle.stores.specs.declared.store.Placed.TheVariants as outcome
 use Rattle.store_folder.proofs.Done.{if_ok, some_due}
 use Rattle.store_folder.proofs.Kept.{gives_here, gives_none}
 use Rattle.store_folder.proofs.folder_store.FolderStore.place_fragment.Goals as goal

@@ -4,7 +4,7 @@ use Rattle.store_folder.specs.Done.{HasFolderOf, IsNamed}
 use Rattle.store_folder.specs.Kept.{IsPathOf}
 use Rattle.store_folder.specs.Replaced.{ReplacesIn}
 use Rattle.store_folder.specs.Temporary.{is_temporary}
-use Rattle.store_repair.specs.declared.store.Placed.TheVariants as outcome
+use Rattle.stores.specs.declared.store.Placed.TheVariants as outcome
 use Rattle.store_folder.proofs.Done.{if_ok, some_due}
 use Rattle.store_folder.proofs.Replaced.{replaces_here, replaces_none}
 use Rattle.store_folder.proofs.folder_store.FolderStore.replace_fragment.Goals as goal

@@ -1,0 +1,4 @@
+pub mod GivenLemmas
+pub mod ChosenLemmas
+pub mod StripeLemmas
+pub mod MemoryLemmas
