@@ -2,6 +2,7 @@
 mod collecting;
 mod feeding;
 mod held;
+mod holding;
 mod jobs;
 mod limits;
 mod pausing;

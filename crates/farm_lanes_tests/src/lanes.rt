@@ -1,8 +1,8 @@
-//! Runs of lanes, in one thread and in several.
-ghost use Rattle.std.specs.Prelude.{◌≡◌, ℕ, ◌<◌, ◌≤◌, [], ◌∷◌, length, IfOk};
+//! Runs of lanes, in one thread and in several. What they count is gathered in a function of its own and compared in the test, once no end
+//! of a lane is left: each assertion beside one makes the proof longer.
+ghost use Rattle.std.specs.Prelude.{◌≡◌, ℕ, ◌<◌, ◌≤◌, IfOk, slice_index_or, vec_len};
 ghost use Rattle.farm_lanes.specs.LaneEnds.{new_put, new_take};
 
-use crate::gates::count_up;
 use farm_lanes::{EndedPut, Item, Lane, LaneError, PutEnd, TakeEnd, settle};
 use linked_list_allocator::LocalHeap;
 use std::alloc::{AllocError, Global};
@@ -11,7 +11,7 @@ use std::sync::atomic::{AtomicBool, AtomicU64, Ordering};
 use std::sync::{Arc, Wait};
 use std::test::Fail;
 use std::thread;
-use std::thread::{Promise, Threads, join};
+use std::thread::{Promise, Threads, join, map_vec};
 
 /// An item's sender, its number and its value, of which an end mark has none.
 type Shown = (u32, u64, Option<u64>);
@@ -98,14 +98,21 @@ fn is_set_in_time(done: &AtomicBool) -> bool {
     done.load(Ordering::SeqCst)
 }
 
+fn put_two<R: Wait>(rt: &R, mut end: PutEnd<u64>) -> EndedPut<u64>
+    requires { end ≡ new_put end.lane 0 }
+    ensures { (result.lane ≡ end.lane) × (result.sender ≡ end.sender) }
+{
+    end.put(rt, 7);
+    end.put(rt, 9);
+    end.end(rt)
+}
+
 /// What was put is taken in another thread, within a bounded number of turns.
 #[test]
 fn takes_in_another_thread_what_was_put(rt: HostRuntime) -> Result<(), Fail> {
     let alloc: Global = rt.alloc();
-    let (mut put, take) = pair::<u64>(alloc, 4)?;
-    put.put(&rt, 7);
-    put.put(&rt, 9);
-    let ended = put.end(&rt);
+    let (put, take) = pair::<u64>(alloc, 4)?;
+    let ended = put_two(&rt, put);
     let done = Arc::new(alloc, AtomicBool::new(false))?;
     let set_when_done = Arc::try_clone(&done)?;
     let promise = TakesBy(Snapshot::of(&take));
@@ -116,13 +123,15 @@ fn takes_in_another_thread_what_was_put(rt: HostRuntime) -> Result<(), Fail> {
             ensures { result.end.lane ≡ take.lane }
         { take_three(&rt, take, &set_when_done) },
     )?;
-    assert!(rt;
-        is_set_in_time(&done),
-        "the items that were put are not taken"
-    );
+    if !is_set_in_time(&done) {
+        return Err(Fail::from("the items that were put are not taken"));
+    }
     let ThreeTaken { end, items } = taker.join(&rt);
-    assert_eq!(rt; items, [(0, 0, Some(7)), (0, 1, Some(9)), (0, 2, None)]);
-    assert_eq!(rt; settle_pair(alloc, ended, end)?, (3, 3));
+    let settled = settle_pair(alloc, ended, end)?;
+    assert_eq!(rt;
+        (items, settled),
+        ([(0, 0, Some(7)), (0, 1, Some(9)), (0, 2, None)], (3, 3))
+    );
     Ok(())
 }
 
@@ -146,9 +155,8 @@ const LIMITS: &[(usize, usize, usize, Option<LaneError>)] = &[
 fn refuses_what_is_beyond_the_limits(rt: HostRuntime) {
     let alloc: Global = rt.alloc();
     for (capacity, putters, takers, refusal) in LIMITS {
-        let opened = Lane::open::<u64>(alloc, *capacity, *putters, *takers);
         assert_eq!(rt;
-            opened.err(),
+            Lane::open::<u64>(alloc, *capacity, *putters, *takers).err(),
             *refusal,
             "capacity {capacity}, ends {putters} and {takers}"
         );
@@ -167,295 +175,197 @@ impl<'a> Drop for CountsDrops<'a> {
     }
 }
 
+/// Three values are put, of which two are taken, and the lane is settled: how many items were put before the end mark and with it, how
+/// many were taken, and how many values were dropped before the settling; what it was settled with; how many values were dropped in all.
+fn put_three_and_take_two<R: Wait>(
+    rt: &R,
+    alloc: Global,
+    drops: &AtomicU64,
+) -> Result<([u64; 4], (u64, u64), u64), Fail> {
+    let (mut put, mut take) = pair(alloc, 4)?;
+    put.put(rt, CountsDrops { drops });
+    put.put(rt, CountsDrops { drops });
+    put.put(rt, CountsDrops { drops });
+    let puts = put.puts();
+    let ended = put.end(rt);
+    drop(take.take(rt));
+    drop(take.take(rt));
+    let dropped = drops.load(Ordering::SeqCst);
+    let counts = [puts, ended.count(), take.count(), dropped];
+    let settled = settle_pair(alloc, ended, take)?;
+    Ok((counts, settled, drops.load(Ordering::SeqCst)))
+}
+
 /// What was not taken is dropped once the lane is settled, and settling counts it.
 #[test]
 fn drops_what_was_not_taken(rt: HostRuntime) -> Result<(), Fail> {
-    let alloc: Global = rt.alloc();
     let drops = AtomicU64::new(0);
-    let (mut put, mut take) = pair(alloc, 4)?;
-    put.put(&rt, CountsDrops { drops: &drops });
-    put.put(&rt, CountsDrops { drops: &drops });
-    put.put(&rt, CountsDrops { drops: &drops });
-    assert_eq!(rt; put.puts(), 3);
-    let ended = put.end(&rt);
-    assert_eq!(rt; ended.count(), 4);
-    drop(take.take(&rt));
-    drop(take.take(&rt));
-    assert_eq!(rt; (take.count(), drops.load(Ordering::SeqCst)), (2, 2));
-    assert_eq!(rt; settle_pair(alloc, ended, take)?, (4, 2));
-    assert_eq!(rt; drops.load(Ordering::SeqCst), 3);
+    let counted = put_three_and_take_two(&rt, rt.alloc(), &drops)?;
+    assert_eq!(rt; counted, ([3, 4, 2, 2], (4, 2), 3));
     Ok(())
 }
 
-/// Puts the numbers below `count`, and then the end mark.
-fn put_all<R: Wait>(rt: &R, mut end: PutEnd<u64>, count: u64) -> EndedPut<u64>
-    requires { (end.put ≡ []) × (count ≤ 1000) }
+/// Puts the numbers below 250, and then the end mark.
+fn put_all<R: Wait>(rt: &R, mut end: PutEnd<u64>) -> EndedPut<u64>
     ensures { (result.lane ≡ end.lane) × (result.sender ≡ end.sender) }
 {
-    for number in 0..count {
-        end.put(rt, number);
+    for number in 0..250u64 {
+        // So many have room at any end: `put` asks for that, and a new end has put none.
+        if end.puts() < 250 {
+            end.put(rt, number);
+        }
     }
     end.end(rt)
 }
 
-/// Takes `count` items. Where there is no memory for one, it is missing among those.
-fn take_all<R: Wait>(rt: &R, alloc: Global, mut end: TakeEnd<u64>, count: u64) -> Taken
-    ensures { result.end.lane ≡ end.lane }
-{
-    let mut items = Vec::new(alloc);
-    for _ in 0..count {
-        let item = shown(end.take(rt));
-        let _pushed = items.push(item);
+/// How many items each of four senders puts, its end mark counted.
+const ITEMS: u64 = 251;
+
+/// How often each item of each of four senders was taken, and whether one was no such item, or came to a taker after a later one of its
+/// sender.
+#[derive(Drop)]
+struct Tally {
+    counts: Vec<AtomicU64>,
+    wrong: AtomicBool,
+}
+
+impl Tally {
+    fn new(alloc: Global) -> Result<Tally, AllocError> {
+        let mut counts = Vec::new(alloc);
+        for _ in 0..4 * ITEMS {
+            counts.push(AtomicU64::new(0))?;
+        }
+        Ok(Tally {
+            counts,
+            wrong: AtomicBool::new(false),
+        })
     }
-    Taken { end, items }
+
+    /// Counts an item of a taker, for whom these are the least numbers that each sender's next item may have.
+    fn count(&self, least: &mut [u64; 4], item: Shown) {
+        let (sender, number, _) = item;
+        let sender = sender as usize;
+        if sender >= 4 || number >= ITEMS || number < least[sender] {
+            self.wrong.store(true, Ordering::SeqCst);
+            return;
+        }
+        least[sender] = number + 1;
+        if let Some(count) = self.counts.get(sender * ITEMS as usize + number as usize) {
+            count.fetch_add(1, Ordering::SeqCst);
+        }
+    }
+
+    /// Whether each item was taken once, and those of each sender in rising numbers at each taker.
+    fn is_once_in_rising_numbers(&self) -> bool {
+        for count in &self.counts {
+            if count.load(Ordering::SeqCst) != 1 {
+                return false;
+            }
+        }
+        !self.wrong.load(Ordering::SeqCst)
+    }
 }
 
-/// A taker's end, and what it took.
-#[derive(Drop)]
-struct Taken {
-    end: TakeEnd<u64>,
-    items: Vec<Shown>,
+/// Takes 502 items.
+fn take_all<R: Wait>(rt: &R, tally: &Tally, mut end: TakeEnd<u64>) -> TakeEnd<u64>
+    ensures { result.lane ≡ end.lane }
+{
+    let mut least = [0u64; 4];
+    for _ in 0..502u32 {
+        tally.count(&mut least, shown(end.take(rt)));
+    }
+    end
 }
 
-fn put_by_two<R: Threads + Wait + Sync>(
+/// Each sender in a thread of its own.
+fn put_each<R: Threads + Wait + Sync>(
     rt: &R,
-    first: PutEnd<u64>,
-    second: PutEnd<u64>,
-    count: u64,
-) -> (EndedPut<u64>, EndedPut<u64>)
-    requires unused { (first.put ≡ []) × (second.put ≡ []) }
-    requires count { count ≤ 1000 }
-    ensures first { (result.0.lane ≡ first.lane) × (result.0.sender ≡ first.sender) }
-    ensures second { (result.1.lane ≡ second.lane) × (result.1.sender ≡ second.sender) }
+    ends: Vec<PutEnd<u64>>,
+) -> Result<Vec<EndedPut<u64>>, AllocError>
+    ensures count { IfOk result (λ v. vec_len v ≡ vec_len ends) }
+    ensures each { IfOk result (λ v. (i : ℕ) (d : _) (e : _) → i < vec_len ends
+        → ((slice_index_or v.items i d).lane ≡ (slice_index_or ends.items i e).lane)
+        × ((slice_index_or v.items i d).sender ≡ (slice_index_or ends.items i e).sender)) }
 {
-    join(
-        rt,
-        move || -> EndedPut<u64>
-            requires { (first.put ≡ []) × (count ≤ 1000) }
-            ensures { (result.lane ≡ first.lane) × (result.sender ≡ first.sender) }
-        { put_all(rt, first, count) },
-        move || -> EndedPut<u64>
-            requires { (second.put ≡ []) × (count ≤ 1000) }
-            ensures { (result.lane ≡ second.lane) × (result.sender ≡ second.sender) }
-        { put_all(rt, second, count) },
-    )
+    map_vec(rt, ends, &|end| put_all(rt, end))
 }
 
-fn take_by_two<R: Threads + Wait + Sync>(
+/// Each taker in a thread of its own.
+fn take_each<R: Threads + Wait + Sync>(
     rt: &R,
-    alloc: Global,
-    first: TakeEnd<u64>,
-    second: TakeEnd<u64>,
-    count: u64,
-) -> (Taken, Taken)
-    ensures { (result.0.end.lane ≡ first.lane) × (result.1.end.lane ≡ second.lane) }
+    tally: &Tally,
+    ends: Vec<TakeEnd<u64>>,
+) -> Result<Vec<TakeEnd<u64>>, AllocError>
+    ensures count { IfOk result (λ v. vec_len v ≡ vec_len ends) }
+    ensures each { IfOk result (λ v. (i : ℕ) (d : _) (e : _) → i < vec_len ends
+        → (slice_index_or v.items i d).lane ≡ (slice_index_or ends.items i e).lane) }
 {
-    join(
-        rt,
-        move || -> Taken
-            ensures { result.end.lane ≡ first.lane }
-        { take_all(rt, alloc, first, count) },
-        move || -> Taken
-            ensures { result.end.lane ≡ second.lane }
-        { take_all(rt, alloc, second, count) },
-    )
+    map_vec(rt, ends, &|end| take_all(rt, tally, end))
 }
 
-/// The ends of a lane with four senders and two takers.
-#[derive(Drop)]
-struct FourToTwo {
-    a: PutEnd<u64>,
-    b: PutEnd<u64>,
-    c: PutEnd<u64>,
-    d: PutEnd<u64>,
-    first: TakeEnd<u64>,
-    second: TakeEnd<u64>,
-}
-
-fn four_to_two(alloc: Global, capacity: usize) -> Result<FourToTwo, LaneError>
-    requires { (0 < capacity) × (capacity ≤ 1024) }
-    ensures ends { IfOk result (λ e. e.a.lane.ends ≡ 6) }
-    ensures puts { IfOk result (λ e. (e.a ≡ new_put e.a.lane 0) × (e.b ≡ new_put e.a.lane 1) × (e.c ≡ new_put e.a.lane 2)
-        × (e.d ≡ new_put e.a.lane 3)) }
-    ensures takes { IfOk result (λ e. (e.first ≡ new_take e.a.lane) × (e.second ≡ new_take e.a.lane)) }
-{
-    let (mut puts, mut takes) = Lane::open(alloc, capacity, 4, 2)?;
-    let (Some(d), Some(c)) = (puts.pop(), puts.pop()) else {
-        unreachable!();
-    };
-    let (Some(b), Some(a)) = (puts.pop(), puts.pop()) else {
-        unreachable!();
-    };
-    let (Some(second), Some(first)) = (takes.pop(), takes.pop()) else {
-        unreachable!();
-    };
-    Ok(FourToTwo {
-        a,
-        b,
-        c,
-        d,
-        first,
-        second,
-    })
-}
-
-/// What a lane was settled with, and what each taker took.
-#[derive(Drop)]
-struct Run {
-    put: u64,
-    taken: u64,
-    first: Vec<Shown>,
-    second: Vec<Shown>,
-}
-
-/// Four senders put 250 values and an end mark each, and two takers take 502 items each, each in a thread of its own.
+/// Four senders put 250 values and an end mark each, and two takers take 502 items each, each in a thread of its own, through a lane of
+/// capacity 1: what it is settled with.
 fn run_lane<R: Threads + Wait + Sync>(
     rt: &R,
     alloc: Global,
-    ends: FourToTwo,
-) -> Result<Run, AllocError>
-    requires ends { ends.a.lane.ends ≡ 6 }
-    requires puts { (ends.a ≡ new_put ends.a.lane 0) × (ends.b ≡ new_put ends.a.lane 1) × (ends.c ≡ new_put ends.a.lane 2)
-        × (ends.d ≡ new_put ends.a.lane 3) }
-    requires takes { (ends.first ≡ new_take ends.a.lane) × (ends.second ≡ new_take ends.a.lane) }
-{
-    let FourToTwo {
-        a,
-        b,
-        c,
-        d,
-        first,
-        second,
-    } = ends;
-    let ((one, other), (took, also_took)) = join(
+    tally: &Tally,
+) -> Result<(u64, u64), Fail> {
+    let (puts, takes) = Lane::open::<u64>(alloc, 1, 4, 2)?;
+    let (ended, taken) = join(
         rt,
-        move || -> (
-            (EndedPut<u64>, EndedPut<u64>),
-            (EndedPut<u64>, EndedPut<u64>),
-        )
-            requires { (a.put ≡ []) × (b.put ≡ []) × (c.put ≡ []) × (d.put ≡ []) }
-            ensures a { (result.0.0.lane ≡ a.lane) × (result.0.0.sender ≡ a.sender) }
-            ensures b { (result.0.1.lane ≡ b.lane) × (result.0.1.sender ≡ b.sender) }
-            ensures c { (result.1.0.lane ≡ c.lane) × (result.1.0.sender ≡ c.sender) }
-            ensures d { (result.1.1.lane ≡ d.lane) × (result.1.1.sender ≡ d.sender) }
-        { put_by_four(rt, a, b, c, d) },
-        move || -> (Taken, Taken)
-            ensures { (result.0.end.lane ≡ first.lane) × (result.1.end.lane ≡ second.lane) }
-        { take_by_two(rt, alloc, first, second, 502) },
+        move || -> Result<Vec<EndedPut<u64>>, AllocError>
+            ensures count { IfOk result (λ v. vec_len v ≡ vec_len puts) }
+            ensures each { IfOk result (λ v. (i : ℕ) (d : _) (e : _) → i < vec_len puts
+                → ((slice_index_or v.items i d).lane ≡ (slice_index_or puts.items i e).lane)
+                × ((slice_index_or v.items i d).sender ≡ (slice_index_or puts.items i e).sender)) }
+        { put_each(rt, puts) },
+        move || -> Result<Vec<TakeEnd<u64>>, AllocError>
+            ensures count { IfOk result (λ v. vec_len v ≡ vec_len takes) }
+            ensures each { IfOk result (λ v. (i : ℕ) (d : _) (e : _) → i < vec_len takes
+                → (slice_index_or v.items i d).lane ≡ (slice_index_or takes.items i e).lane) }
+        { take_each(rt, tally, takes) },
     );
-    let puts = Vec::from_array(alloc, [one.0, one.1, other.0, other.1])?;
-    let takes = Vec::from_array(alloc, [took.end, also_took.end])?;
-    let settled = settle(puts, takes);
-    Ok(Run {
-        put: settled.put,
-        taken: settled.taken,
-        first: took.items,
-        second: also_took.items,
-    })
-}
-
-fn put_by_four<R: Threads + Wait + Sync>(
-    rt: &R,
-    a: PutEnd<u64>,
-    b: PutEnd<u64>,
-    c: PutEnd<u64>,
-    d: PutEnd<u64>,
-) -> (
-    (EndedPut<u64>, EndedPut<u64>),
-    (EndedPut<u64>, EndedPut<u64>),
-)
-    requires { (a.put ≡ []) × (b.put ≡ []) × (c.put ≡ []) × (d.put ≡ []) }
-    ensures a { (result.0.0.lane ≡ a.lane) × (result.0.0.sender ≡ a.sender) }
-    ensures b { (result.0.1.lane ≡ b.lane) × (result.0.1.sender ≡ b.sender) }
-    ensures c { (result.1.0.lane ≡ c.lane) × (result.1.0.sender ≡ c.sender) }
-    ensures d { (result.1.1.lane ≡ d.lane) × (result.1.1.sender ≡ d.sender) }
-{
-    join(
-        rt,
-        move || -> (EndedPut<u64>, EndedPut<u64>)
-            requires { (a.put ≡ []) × (b.put ≡ []) }
-            ensures a { (result.0.lane ≡ a.lane) × (result.0.sender ≡ a.sender) }
-            ensures b { (result.1.lane ≡ b.lane) × (result.1.sender ≡ b.sender) }
-        { put_by_two(rt, a, b, 250) },
-        move || -> (EndedPut<u64>, EndedPut<u64>)
-            requires { (c.put ≡ []) × (d.put ≡ []) }
-            ensures c { (result.0.lane ≡ c.lane) × (result.0.sender ≡ c.sender) }
-            ensures d { (result.1.lane ≡ d.lane) × (result.1.sender ≡ d.sender) }
-        { put_by_two(rt, c, d, 250) },
-    )
-}
-
-/// The numbers of one sender among these items, in order.
-fn numbers_of(alloc: Global, items: &[Shown], sender: u32) -> Result<Vec<u64>, AllocError> {
-    let mut numbers = Vec::new(alloc);
-    for item in items {
-        if item.0 == sender {
-            numbers.push(item.1)?;
-        }
-    }
-    Ok(numbers)
-}
-
-/// Whether each number is greater than those before it.
-fn rises(numbers: &[u64]) -> bool {
-    let mut least = 0u64;
-    for number in numbers {
-        if *number < least {
-            return false;
-        }
-        least = number.saturating_add(1);
-    }
-    true
-}
-
-/// Whether the numbers of one sender rise at each taker, and are together 0 to 250, each once.
-fn rise_and_are_all(
-    alloc: Global,
-    first: &[Shown],
-    second: &[Shown],
-    sender: u32,
-) -> Result<bool, AllocError> {
-    let mut numbers = numbers_of(alloc, first, sender)?;
-    let others = numbers_of(alloc, second, sender)?;
-    let both_rise = rises(&numbers) && rises(&others);
-    numbers.extend_from_slice(&others)?;
-    numbers.sort()?;
-    Ok(both_rise && numbers.len() == 251 && count_up(&numbers))
+    let ended = ended?;
+    let taken = taken?;
+    let settled = settle(ended, taken);
+    Ok((settled.put, settled.taken))
 }
 
 /// Through a lane of capacity 1 each item of four senders comes to one of two takers, once, and in rising numbers.
 #[test]
 fn takes_each_item_once(rt: HostRuntime) -> Result<(), Fail> {
-    let alloc: Global = rt.alloc();
-    let run = run_lane(&rt, alloc, four_to_two(alloc, 1)?)?;
-    assert_eq!(rt; (run.put, run.taken), (1004, 1004));
-    assert_eq!(rt; (run.first.len(), run.second.len()), (502, 502));
-    for sender in 0..4u32 {
-        assert!(rt;
-            rise_and_are_all(alloc, &run.first, &run.second, sender)?,
-            "sender {sender}"
-        );
-    }
+    let found = {
+        let tally = Tally::new(rt.alloc())?;
+        let settled = run_lane(&rt, rt.alloc(), &tally)?;
+        (settled, tally.is_once_in_rising_numbers())
+    };
+    assert_eq!(rt; found, ((1004, 1004), true));
     Ok(())
 }
 
 /// Where the lane's room is refused, that is said, and nothing else. The heap grows by steps
 /// smaller than any allocation, so that each allocation in turn is the one that is refused.
 #[test]
-fn refused_memory_is_said(rt: HostRuntime) -> Result<(), Fail> {
+fn refused_memory_is_said(rt: HostRuntime) {
     let alloc: Global = rt.alloc();
     let mut refused = false;
+    let mut opened = false;
     for words in 0..1000usize {
         let Ok(heap) = LocalHeap::new(alloc, 8 * words) else {
             continue;
         };
-        let opened = Lane::open_in::<u64, &LocalHeap>(&heap, 4, 2, 2);
-        let Err(error) = opened else {
-            assert!(rt; refused, "no memory is refused");
-            return Ok(());
-        };
-        assert_eq!(rt; error, LaneError::OutOfMemory);
-        refused = true;
+        match Lane::open_in::<u64, &LocalHeap>(&heap, 4, 2, 2) {
+            Ok(_) => opened = true,
+            Err(LaneError::OutOfMemory) => refused = true,
+            Err(_) => break,
+        }
+        if opened {
+            break;
+        }
     }
-    panic!(rt; "the lane is never opened")
+    assert!(rt; refused, "no memory is refused");
+    assert!(rt;
+        opened,
+        "the lane is never opened, or another error is said"
+    );
 }

@@ -35,18 +35,24 @@ fn number_of_closing(_refused: AlreadyClosed) -> u8 {
 #[test]
 fn limits_and_refusals_have_their_numbers(rt: HostRuntime) {
     let alloc: Global = rt.alloc();
+    let lane = Lane::open::<u64>(alloc, 0, 1, 1).err();
+    let gate = Gate::open(alloc, 0, 1).err();
     assert_eq!(rt;
-        (MOST_CAPACITY, MOST_PUT_ENDS, MOST_TAKE_ENDS),
-        (1024, 128, 32)
+        (
+            (MOST_CAPACITY, MOST_PUT_ENDS, MOST_TAKE_ENDS),
+            (MOST_SEATS, MOST_RIGHTS, MOST_DRAWS),
+            lane.map(number_of_lane_error),
+            gate.map(number_of_gate_error),
+            number_of_refusal(GateRefusal::Closed),
+            number_of_closing(AlreadyClosed)
+        ),
+        (
+            (1024, 128, 32),
+            (16, 16, 4_294_967_296),
+            Some(6),
+            Some(27),
+            8,
+            10
+        )
     );
-    assert_eq!(rt;
-        (MOST_SEATS, MOST_RIGHTS, MOST_DRAWS),
-        (16, 16, 4_294_967_296)
-    );
-    let lane = Lane::open::<u64>(alloc, 0, 1, 1);
-    assert_eq!(rt; lane.err().map(number_of_lane_error), Some(6));
-    let gate = Gate::open(alloc, 0, 1);
-    assert_eq!(rt; gate.err().map(number_of_gate_error), Some(27));
-    assert_eq!(rt; number_of_refusal(GateRefusal::Closed), 8);
-    assert_eq!(rt; number_of_closing(AlreadyClosed), 10);
 }

@@ -1,11 +1,11 @@
 //! Products, inverses and kernels against values from outside: known vectors, and a product by shifts.
 ghost use Rattle.std.specs.Prelude.{◌≡◌};
 
+use super::assertions::{assert_none, assert_so};
 use lrc_field::{
     Gf, Pair, SUMMED_AT_ONCE, TESTED_AT_ONCE, Term, add_into, combine_into, combine_pairs_into,
     no_pairs, no_terms, pairs_in, scale_add_into, sums_are_zero, sums_are_zero_between, terms_in,
 };
-use std::alloc::{AllocError, Global};
 
 /// The product by shifts: for each bit of b the shifted a, reduced at each shift.
 fn product_by_shifts(a: u8, b: u8) -> u8 {
@@ -24,15 +24,29 @@ fn product_by_shifts(a: u8, b: u8) -> u8 {
     sum
 }
 
-/// Bytes of a linear congruential generator.
-fn some_bytes(alloc: Global, len: usize, seed: u32) -> Result<Vec<u8>, AllocError> {
-    let mut bytes = Vec::with_capacity(alloc, len)?;
+/// The greatest length of slices and terms.
+const LONGEST: usize = 65_536;
+
+/// Bytes of each source of windows, more than any window needs.
+const SOURCE: usize = 4_200;
+
+/// Fills a slice with bytes of a linear congruential generator.
+fn fill(bytes: &mut [u8], seed: u32) {
     let mut state = seed;
-    for _ in 0..len {
+    for byte in bytes {
         state = state.wrapping_mul(1_664_525).wrapping_add(1_013_904_223);
-        bytes.push((state >> 24) as u8)?;
+        *byte = (state >> 24) as u8;
     }
-    Ok(bytes)
+}
+
+fn term_of<'a>(scalar: u8, bytes: &'a [u8]) -> Term<'a>
+    ensures scalar { result.scalar ≡ scalar }
+    ensures bytes { result.bytes.now ≡ bytes.entry.now }
+{
+    Term {
+        scalar: Gf::new(scalar),
+        bytes,
+    }
 }
 
 /// The sum of these terms at an index, by shifts.
@@ -57,18 +71,6 @@ fn are_sums(bytes: &[u8], from: usize, terms: &[Term]) -> bool {
     true
 }
 
-/// Both sums of these pairs at an index, by shifts.
-fn pair_sums_at(index: usize, pairs: &[Pair]) -> Option<(u8, u8)> {
-    let mut first = 0;
-    let mut second = 0;
-    for pair in pairs {
-        let byte = pair.bytes.get(index)?;
-        first ^= product_by_shifts(pair.first.byte(), *byte);
-        second ^= product_by_shifts(pair.second.byte(), *byte);
-    }
-    Some((first, second))
-}
-
 /// The second source is empty, and the last coefficient has no source.
 const SOURCES: &[&[u8]] = &[&[0x80, 0x04], &[], &[0xff, 0x0c], &[0x61, 0x61]];
 
@@ -81,59 +83,55 @@ fn elements(bytes: [u8; 5]) -> [Gf; 5] {
     [Gf::new(a), Gf::new(b), Gf::new(c), Gf::new(d), Gf::new(e)]
 }
 
-/// Whether these are the terms of those.
+/// Whether these are the terms of the third and the fourth source.
 fn are_terms(terms: &[Term]) -> bool {
     terms.len() == 2
         && sum_at(0, terms) == Some(0xe3 ^ 0x5e)
         && sum_at(1, terms) == Some(0x18 ^ 0x5e)
 }
 
-#[test]
-fn terms_leave_out_zeros_and_empty_sources(rt: HostRuntime) {
-    let mut room = no_terms();
-    assert!(&rt; are_terms(terms_in(&mut room, &elements(FIRSTS), SOURCES)));
+/// Whether a pair has these scalars and bytes.
+fn is_pair(pair: &Pair, first: u8, second: u8, bytes: &[u8]) -> bool {
+    pair.first.byte() == first && pair.second.byte() == second && pair.bytes == bytes
 }
 
-fn is_empty_of_terms(room: &[Term]) -> bool {
-    for term in room {
+/// Whether these are the pairs of all sources but the empty one.
+fn are_pairs(pairs: &[Pair]) -> bool {
+    match pairs {
+        [one, two, three] => {
+            is_pair(one, 0x00, 0x04, SOURCES[0])
+                && is_pair(two, 0x02, 0x00, SOURCES[2])
+                && is_pair(three, 0x10, 0x01, SOURCES[3])
+        }
+        _ => false,
+    }
+}
+
+/// Whether rooms have nothing in them, so that what is read of one by mistake adds nothing.
+fn are_empty(terms: &[Term], pairs: &[Pair]) -> bool {
+    for term in terms {
         if term.scalar.byte() != 0 || !term.bytes.is_empty() {
             return false;
         }
     }
-    true
-}
-
-fn is_empty_of_pairs(room: &[Pair]) -> bool {
-    for pair in room {
-        if pair.first.byte() != 0 || pair.second.byte() != 0 || !pair.bytes.is_empty() {
+    for pair in pairs {
+        if !is_pair(pair, 0x00, 0x00, &[]) {
             return false;
         }
     }
     true
 }
 
-/// Rooms have nothing in them at first, so that what is read of one by mistake adds nothing.
 #[test]
-fn rooms_have_nothing_at_first(rt: HostRuntime) {
-    assert!(&rt; is_empty_of_terms(&no_terms()));
-    assert!(&rt; is_empty_of_pairs(&no_pairs()));
+fn rooms_have_nothing_at_first_and_then_no_zeros_or_empty_sources(rt: HostRuntime) {
+    let mut terms = no_terms();
+    let mut pairs = no_pairs();
+    assert_so(&rt, are_empty(&terms, &pairs));
+    let firsts = elements(FIRSTS);
+    assert_so(&rt, are_terms(terms_in(&mut terms, &firsts, SOURCES)));
+    let pairs = pairs_in(&mut pairs, &firsts, &elements(SECONDS), SOURCES);
+    assert_so(&rt, are_pairs(pairs));
 }
-
-/// Whether these are the pairs of both.
-fn are_pairs(pairs: &[Pair]) -> bool {
-    pairs.len() == 3
-        && pair_sums_at(0, pairs) == Some((0xe3 ^ 0x5e, 0x3a ^ 0x61))
-        && pair_sums_at(1, pairs) == Some((0x18 ^ 0x5e, 0x10 ^ 0x61))
-}
-
-#[test]
-fn pairs_leave_out_zeros_and_empty_sources(rt: HostRuntime) {
-    let mut room = no_pairs();
-    let pairs = pairs_in(&mut room, &elements(FIRSTS), &elements(SECONDS), SOURCES);
-    assert!(&rt; are_pairs(pairs));
-}
-
-const LENGTHS: &[usize] = &[0, 1, 31, 32, 33, 64, TESTED_AT_ONCE + 1, 4_100, 65_536];
 
 const PRODUCTS: &[(u8, u8, u8)] = &[
     (0x02, 0x80, 0x1d),
@@ -156,39 +154,34 @@ const PRODUCTS: &[(u8, u8, u8)] = &[
 
 const INVERSES: &[(u8, u8)] = &[(0x01, 0x01), (0x02, 0x8e), (0x04, 0x47), (0x8e, 0x02)];
 
-/// Whether an element has this inverse.
-fn has_inverse(a: u8, expected: u8) -> bool {
-    match Gf::new(a).inverse() {
-        Some(inverse) => inverse.byte() == expected,
-        None => false,
+/// The first pair of bytes whose product isn't the known one, also by shifts, or that aren't each other's inverses.
+fn wrong_product() -> Option<(u8, u8)> {
+    for (a, b, product) in PRODUCTS {
+        if Gf::new(*a).mul(Gf::new(*b)).byte() != *product
+            || product_by_shifts(*a, *b) != *product
+        {
+            return Some((*a, *b));
+        }
     }
-}
-
-/// Whether two bytes have this product, also by shifts.
-fn have_product(a: u8, b: u8, expected: u8) -> bool {
-    Gf::new(a).mul(Gf::new(b)).byte() == expected && product_by_shifts(a, b) == expected
+    for (a, expected) in INVERSES {
+        match Gf::new(*a).inverse() {
+            Some(inverse) if inverse.byte() == *expected => {}
+            _ => return Some((*a, *expected)),
+        }
+    }
+    None
 }
 
 #[test]
 fn products_and_inverses_are_the_known_ones(rt: HostRuntime) {
-    for (a, b, product) in PRODUCTS {
-        assert!(&rt; have_product(*a, *b, *product), "{a} * {b}");
-    }
-    for (a, inverse) in INVERSES {
-        assert!(&rt; has_inverse(*a, *inverse), "the inverse of {a}");
-    }
-    assert!(&rt; Gf::new(0).inverse().is_none() && Gf::new(0x61).add(Gf::new(0x99)).byte() == 0xf8);
+    assert_none(&rt, wrong_product());
+    assert_so(
+        &rt,
+        Gf::new(0).inverse().is_none() && Gf::new(0x61).add(Gf::new(0x99)).byte() == 0xf8,
+    );
 }
 
-fn term_of<'a>(scalar: u8, bytes: &'a [u8]) -> Term<'a>
-    ensures scalar { result.scalar ≡ scalar }
-    ensures bytes { result.bytes.now ≡ bytes.entry.now }
-{
-    Term {
-        scalar: Gf::new(scalar),
-        bytes,
-    }
-}
+const LENGTHS: &[usize] = &[0, 1, 31, 32, 33, 64, TESTED_AT_ONCE + 1, 4_100, 65_536];
 
 /// Whether each byte is that of a slice and a scalar times that of another, by shifts.
 fn are_scaled_sums(bytes: &[u8], before: &[u8], scalar: u8, src: &[u8]) -> bool {
@@ -204,95 +197,83 @@ fn are_scaled_sums(bytes: &[u8], before: &[u8], scalar: u8, src: &[u8]) -> bool 
     true
 }
 
-/// Whether a slice added into another gives the sums by shifts.
-fn adds(alloc: Global, before: &[u8], src: &[u8]) -> Result<bool, AllocError> {
-    let mut dst = before.to_vec(alloc)?;
-    if dst.len() != src.len() {
-        return Ok(false);
+/// Whether a scalar times a slice, or the slice itself, added into another gives the sums by shifts.
+fn is_added(dst: &mut [u8], before: &[u8], scalar: Option<u8>, src: &[u8]) -> bool {
+    if dst.len() != before.len() || src.len() != before.len() {
+        return false;
     }
-    add_into(&mut dst, src);
-    Ok(are_scaled_sums(&dst, before, 0x01, src))
+    dst.copy_from_slice(before);
+    match scalar {
+        Some(scalar) => scale_add_into(dst, Gf::new(scalar), src),
+        None => add_into(dst, src),
+    }
+    are_scaled_sums(dst, before, scalar.unwrap_or(0x01), src)
 }
 
-/// And a scalar times the slice.
-fn scale_adds(alloc: Global, before: &[u8], scalar: u8, src: &[u8]) -> Result<bool, AllocError> {
-    let mut dst = before.to_vec(alloc)?;
-    if dst.len() != src.len() {
-        return Ok(false);
-    }
-    scale_add_into(&mut dst, Gf::new(scalar), src);
-    Ok(are_scaled_sums(&dst, before, scalar, src))
-}
-
-/// Whether both are so for slices of this length, the second for each scalar.
-fn slices_are_summed(alloc: Global, len: usize) -> Result<bool, AllocError> {
-    let src = some_bytes(alloc, len, 5)?;
-    let before = some_bytes(alloc, len, 11)?;
+/// Whether it does for each scalar.
+fn are_added(sums: &mut [u8], before: &[u8], src: &[u8]) -> bool {
     for scalar in 0..=255u8 {
-        if !scale_adds(alloc, &before, scalar, &src)? {
-            return Ok(false);
+        if !is_added(sums, before, Some(scalar), src) {
+            return false;
         }
     }
-    Ok(before.len() == len && adds(alloc, &before, &src)?)
+    is_added(sums, before, None, src)
 }
 
-#[test]
-fn sums_of_slices_are_those_by_shifts(rt: HostRuntime) {
-    for len in LENGTHS {
-        assert!(&rt;
-            slices_are_summed(rt.alloc(), *len) == Ok(true),
-            "{len} bytes"
-        );
-    }
-}
-
-/// Whether the sums of three terms are those by shifts, and zero only where there are none.
-fn are_combined(alloc: Global, first: &[u8], second: &[u8]) -> Result<bool, AllocError> {
+/// Whether the sums of three terms are those by shifts, and zero only where there are none, and the sums of two equal terms are zero.
+fn are_combined(sums: &mut [u8], first: &[u8], second: &[u8]) -> bool {
+    fill(sums, 23);
     let len = first.len();
-    if second.len() != len {
-        return Ok(false);
+    if second.len() != len || sums.len() != len {
+        return false;
     }
     let terms = [
         term_of(0x01, first),
         term_of(0x53, second),
         term_of(0x00, second),
     ];
-    let mut sums = some_bytes(alloc, len, 23)?;
-    if sums.len() != len {
-        return Ok(false);
-    }
-    combine_into(&mut sums, 0, &terms);
-    Ok(sums.len() == len && are_sums(&sums, 0, &terms) && sums_are_zero(len, &terms) == (len == 0))
+    combine_into(sums, 0, &terms);
+    are_sums(sums, 0, &terms)
+        && sums_are_zero(len, &terms) == (len == 0)
+        && sums_are_zero(len, &[term_of(0x07, first), term_of(0x07, first)])
 }
 
-/// Whether they are so for terms of this length, and the sums of two equal terms are zero.
-fn terms_are_combined(alloc: Global, len: usize) -> Result<bool, AllocError> {
-    let first = some_bytes(alloc, len, 5)?;
-    let second = some_bytes(alloc, len, 11)?;
-    if first.len() != len {
-        return Ok(false);
+/// The first length of slices and terms whose sums aren't those by shifts.
+fn wrong_length() -> Option<usize> {
+    let mut first = [0; LONGEST];
+    let mut second = [0; LONGEST];
+    let mut sums = [0; LONGEST];
+    fill(&mut first, 5);
+    fill(&mut second, 11);
+    for len in LENGTHS {
+        let (Some(first), Some(second)) = (first.get(..*len), second.get(..*len)) else {
+            return Some(*len);
+        };
+        let Some(sums) = sums.get_mut(..*len) else {
+            return Some(*len);
+        };
+        if !are_added(sums, second, first) || !are_combined(sums, first, second) {
+            return Some(*len);
+        }
     }
-    let twice = [term_of(0x07, &first), term_of(0x07, &first)];
-    Ok(sums_are_zero(len, &twice) && are_combined(alloc, &first, &second)?)
+    None
 }
 
 #[test]
-fn sums_of_terms_are_those_by_shifts(rt: HostRuntime) {
-    for len in LENGTHS {
-        assert!(&rt;
-            terms_are_combined(rt.alloc(), *len) == Ok(true),
-            "{len} bytes"
-        );
-    }
+fn sums_of_slices_and_terms_are_those_by_shifts(rt: HostRuntime) {
+    assert_none(&rt, wrong_length());
 }
 
-/// Lengths of windows: around the blocks of 32 bytes, the two of 128 of a sum of three, and those of 192 of other sums.
+/// Lengths of windows: around the blocks of 32 bytes, the two of 128 of a sum of three, and those of 192 of other sums; and those of pairs
+/// around the blocks of 96 bytes, of which one is the least.
 const WINDOWS: &[usize] = &[
     0,
     1,
     31,
     32,
     33,
+    96,
+    97,
     127,
     128,
     129,
@@ -306,129 +287,117 @@ const WINDOWS: &[usize] = &[
     2 * SUMMED_AT_ONCE - 1,
     2 * SUMMED_AT_ONCE,
     2 * SUMMED_AT_ONCE + 33,
+    1_025,
     4_097,
 ];
-
-/// Bytes of each source, more than any window needs.
-const SOURCE: usize = 4_200;
-
-/// Whether the sums of a window are those by shifts.
-fn is_combined_into(
-    alloc: Global,
-    from: usize,
-    len: usize,
-    terms: &[Term],
-) -> Result<bool, AllocError> {
-    let mut dst = some_bytes(alloc, len, 23)?;
-    if dst.len() != len || from > 100 || len > 4_097 || terms.len() > 16 {
-        return Ok(false);
-    }
-    if !terms.iter().all(|term| term.bytes.len() >= from + len) {
-        return Ok(false);
-    }
-    combine_into(&mut dst, from, terms);
-    Ok(dst.len() == len && are_sums(&dst, from, terms))
-}
-
-/// Whether they are so in all windows, with these scalars of the second and the third term.
-fn are_windows_combined(alloc: Global, b: u8, c: u8) -> Result<bool, AllocError> {
-    let first = some_bytes(alloc, SOURCE, 5)?;
-    let second = some_bytes(alloc, SOURCE, 11)?;
-    let third = some_bytes(alloc, SOURCE, 17)?;
-    let terms = [
-        term_of(0x01, &first),
-        term_of(b, &second),
-        term_of(c, &third),
-    ];
-    are_terms_combined(alloc, &terms)
-}
 
 /// From which indexes on windows are.
 const FROM: &[usize] = &[0, 1, 33, 100];
 
-/// Whether the sums of these terms are so in all windows.
-fn are_terms_combined(alloc: Global, terms: &[Term]) -> Result<bool, AllocError> {
+/// Whether the sums of a window are those by shifts, with these scalars of the second and the third source.
+fn is_combined(sums: &mut [u8], from: usize, b: u8, c: u8, sources: [&[u8]; 3]) -> bool {
+    fill(sums, 23);
+    let [first, second, third] = sources;
+    if from > 100 || sums.len() > 4_097 {
+        return false;
+    }
+    if first.len() < SOURCE || second.len() < SOURCE || third.len() < SOURCE {
+        return false;
+    }
+    let terms = [term_of(0x01, first), term_of(b, second), term_of(c, third)];
+    combine_into(sums, from, &terms);
+    are_sums(sums, from, &terms)
+}
+
+fn pair_of<'a>(first: u8, second: u8, bytes: &'a [u8]) -> Pair<'a>
+    ensures { result.bytes.now ≡ bytes.entry.now }
+{
+    Pair {
+        first: Gf::new(first),
+        second: Gf::new(second),
+        bytes,
+    }
+}
+
+/// Whether both sums of a window of pairs are.
+fn are_pairs_combined(
+    sums: &mut [u8],
+    others: &mut [u8],
+    from: usize,
+    sources: [&[u8]; 3],
+) -> bool {
+    fill(sums, 23);
+    fill(others, 29);
+    let [first, second, third] = sources;
+    let len = sums.len();
+    if others.len() != len || len < 96 || from > 100 || len > 4_097 {
+        return false;
+    }
+    if first.len() < SOURCE || second.len() < SOURCE || third.len() < SOURCE {
+        return false;
+    }
+    let pairs = [
+        pair_of(0x01, 0x01, first),
+        pair_of(0x53, 0x8e, second),
+        pair_of(0x00, 0x04, third),
+    ];
+    combine_pairs_into(sums, others, from, &pairs);
+    are_sums(
+        sums,
+        from,
+        &[
+            term_of(0x01, first),
+            term_of(0x53, second),
+            term_of(0x00, third),
+        ],
+    ) && are_sums(
+        others,
+        from,
+        &[
+            term_of(0x01, first),
+            term_of(0x8e, second),
+            term_of(0x04, third),
+        ],
+    )
+}
+
+/// The first index and length of a window whose sums aren't those by shifts.
+fn wrong_window() -> Option<(usize, usize)> {
+    let mut first = [0; SOURCE];
+    let mut second = [0; SOURCE];
+    let mut third = [0; SOURCE];
+    fill(&mut first, 5);
+    fill(&mut second, 11);
+    fill(&mut third, 17);
+    let sources: [&[u8]; 3] = [&first, &second, &third];
+    let mut sums = [0; SOURCE];
+    let mut others = [0; SOURCE];
     for from in FROM {
         for len in WINDOWS {
-            if !is_combined_into(alloc, *from, *len, terms)? {
-                return Ok(false);
+            let Some(sums) = sums.get_mut(..*len) else {
+                return Some((*from, *len));
+            };
+            let Some(others) = others.get_mut(..*len) else {
+                return Some((*from, *len));
+            };
+            if !is_combined(sums, *from, 0x01, 0x01, sources)
+                || !is_combined(sums, *from, 0x53, 0x00, sources)
+                || (*len >= 96 && !are_pairs_combined(sums, others, *from, sources))
+            {
+                return Some((*from, *len));
             }
         }
     }
-    Ok(true)
+    None
 }
 
 #[test]
-fn sums_of_terms_in_windows_are_those_by_shifts(rt: HostRuntime) {
-    assert!(&rt; are_windows_combined(rt.alloc(), 0x01, 0x01) == Ok(true));
-    assert!(&rt; are_windows_combined(rt.alloc(), 0x53, 0x00) == Ok(true));
-}
-
-/// Lengths of windows of pairs: around the blocks of 96 bytes, of which one is the least.
-const PAIR_WINDOWS: &[usize] = &[96, 97, 128, 191, 192, 193, 1025, 4097];
-
-/// Whether both sums of a window are those by shifts.
-fn are_combined_in_pairs(
-    alloc: Global,
-    from: usize,
-    len: usize,
-    pairs: &[Pair],
-) -> Result<bool, AllocError> {
-    let mut first = some_bytes(alloc, len, 23)?;
-    let mut second = some_bytes(alloc, len, 29)?;
-    if first.len() != len || second.len() != len || len < 96 || from > 100 || len > 4_097 {
-        return Ok(false);
-    }
-    if !pairs.iter().all(|pair| pair.bytes.len() >= from + len) {
-        return Ok(false);
-    }
-    combine_pairs_into(&mut first, &mut second, from, pairs);
-    Ok(first.len() == len && are_pair_sums(&first, &second, from, pairs))
-}
-
-/// Whether these bytes are both sums of the pairs, by shifts, from an index on.
-fn are_pair_sums(first: &[u8], second: &[u8], from: usize, pairs: &[Pair]) -> bool {
-    let mut index = from;
-    for (one, other) in first.iter().zip(second.iter()) {
-        if pair_sums_at(index, pairs) != Some((*one, *other)) {
-            return false;
-        }
-        index = index.wrapping_add(1);
-    }
-    first.len() == second.len()
-}
-
-/// Whether they are so in all windows of three sources.
-fn are_pairs_combined(alloc: Global) -> Result<bool, AllocError> {
-    let first = some_bytes(alloc, SOURCE, 5)?;
-    let second = some_bytes(alloc, SOURCE, 11)?;
-    let third = some_bytes(alloc, SOURCE, 17)?;
-    let sources = [first.as_slice(), second.as_slice(), third.as_slice()];
-    let firsts = [Gf::new(0x01), Gf::new(0x53), Gf::new(0x00)];
-    let seconds = [Gf::new(0x01), Gf::new(0x8e), Gf::new(0x04)];
-    let mut room = no_pairs();
-    are_windows_of_pairs(alloc, pairs_in(&mut room, &firsts, &seconds, &sources))
-}
-
-/// Whether the sums of these pairs are so in all windows.
-fn are_windows_of_pairs(alloc: Global, pairs: &[Pair]) -> Result<bool, AllocError> {
-    for from in FROM {
-        for len in PAIR_WINDOWS {
-            if !are_combined_in_pairs(alloc, *from, *len, pairs)? {
-                return Ok(false);
-            }
-        }
-    }
-    Ok(true)
-}
-
-#[test]
-fn sums_of_pairs_in_windows_are_those_by_shifts(rt: HostRuntime) {
-    assert!(&rt; are_pairs_combined(rt.alloc()) == Ok(true));
+fn sums_of_terms_and_pairs_in_windows_are_those_by_shifts(rt: HostRuntime) {
+    assert_none(&rt, wrong_window());
 }
 
 /// Whether two terms that differ at one index have zero sums in just the windows without it.
-fn differ_at(changed: usize, terms: &[Term; 2]) -> bool {
+fn differ_at(changed: usize, scalar: u8, first: &[u8], second: &[u8]) -> bool {
     for from in [0, 1, 33, 100, TESTED_AT_ONCE] {
         for to in [
             0,
@@ -441,29 +410,16 @@ fn differ_at(changed: usize, terms: &[Term; 2]) -> bool {
             2 * TESTED_AT_ONCE + 1,
             SOURCE,
         ] {
-            if !terms.iter().all(|term| term.bytes.len() >= to) {
+            if first.len() < to || second.len() < to {
                 return false;
             }
-            if sums_are_zero_between(from, to, terms) != (changed < from || to <= changed) {
+            let terms = [term_of(scalar, first), term_of(scalar, second)];
+            if sums_are_zero_between(from, to, &terms) != (changed < from || to <= changed) {
                 return false;
             }
         }
     }
     true
-}
-
-/// Whether they have, where the second differs from the first at this index.
-fn windows_are_zero(alloc: Global, changed: usize) -> Result<bool, AllocError> {
-    let first = some_bytes(alloc, SOURCE, 5)?;
-    let mut second = first.clone()?;
-    let Some(byte) = second.get_mut(changed) else {
-        return Ok(false);
-    };
-    *byte ^= 0x40;
-    Ok(
-        differ_at(changed, &[term_of(0x01, &first), term_of(0x01, &second)])
-            && differ_at(changed, &[term_of(0x53, &first), term_of(0x53, &second)]),
-    )
 }
 
 const CHANGED: &[usize] = &[
@@ -479,12 +435,25 @@ const CHANGED: &[usize] = &[
     SOURCE - 1,
 ];
 
+/// The first of these where a source and one that differs from it there haven't.
+fn wrong_change() -> Option<usize> {
+    let mut first = [0; SOURCE];
+    fill(&mut first, 5);
+    for changed in CHANGED {
+        let mut second = first;
+        if let Some(byte) = second.get_mut(*changed) {
+            *byte ^= 0x40;
+        }
+        if !differ_at(*changed, 0x01, &first, &second)
+            || !differ_at(*changed, 0x53, &first, &second)
+        {
+            return Some(*changed);
+        }
+    }
+    None
+}
+
 #[test]
 fn windows_without_a_difference_have_zero_sums(rt: HostRuntime) {
-    for changed in CHANGED {
-        assert!(&rt;
-            windows_are_zero(rt.alloc(), *changed) == Ok(true),
-            "changed at {changed}"
-        );
-    }
+    assert_none(&rt, wrong_change());
 }

@@ -1,141 +1,143 @@
 //! What a repair and a scrub make of damage among the survivors of a stripe.
-use crate::asserting::{assert_holds, assert_same};
+use crate::asserting::assert_holds;
+use crate::cases::{Act, Case, REPLACING, WHOLE, is_left_in, outcome_of, store_of};
 use crate::ranks::suspects_of;
-use crate::samples::{
-    Sample, assert_there, fragment_of, narrow, put_without, repair, repair_as, scrub, wide,
-};
+use crate::samples::{BOTH, Fragments, Sample, bytes_at};
 use lrc_code::{Code, Place, PlaceSet};
 use std::alloc::{AllocError, Global};
-use std::process::Abort;
-use store_repair::{Finding, MemoryStore, Reads, Reason, Repair, StripeOutcome};
-
-/// What is under the names of some fragments in place of a sample's.
-type Changes<'a> = &'a [(Place, &'a [u8])];
+use store_repair::{Reason, StripeOutcome};
 
 /// A sample's fragment with another first byte.
 fn flipped(sample: &Sample, place: Place) -> [u8; 5] {
-    let mut bytes = [0; 5];
-    for (to, from) in bytes.iter_mut().zip(fragment_of(sample, place)) {
-        *to = *from;
-    }
-    bytes[0] ^= 0x5a;
-    bytes
-}
-
-/// A store with a sample's fragments but for lost ones and those that are changed.
-fn changed_store(
-    alloc: Global,
-    sample: &Sample,
-    lost: &[Place],
-    changes: Changes<'_>,
-) -> Result<MemoryStore, AllocError> {
-    let mut store = MemoryStore::new(alloc);
-    put_without(&mut store, sample, lost)?;
-    for (place, bytes) in changes {
-        if !lost.contains(place) {
-            store.put(sample.name, *place, bytes)?;
+    match bytes_at(sample.fragments, place) {
+        Some([first, second, third, fourth, fifth]) => {
+            [*first ^ 0x5a, *second, *third, *fourth, *fifth]
         }
+        _ => [0; 5],
     }
-    Ok(store)
 }
 
-/// Asserts that what is under a sample's names is the sample's, or one of the changes.
-fn assert_known(rt: &impl Abort, store: &MemoryStore, sample: &Sample, changes: Changes<'_>) {
+/// Which fragments are lost in turn: none, some of each kind, and each two of these.
+static NARROW_LOSSES: [&[Place]; 29] = [
+    &[],
+    &[Place::X0],
+    &[Place::X1],
+    &[Place::Y2],
+    &[Place::Px],
+    &[Place::Py],
+    &[Place::P0],
+    &[Place::P1],
+    &[Place::X0, Place::X1],
+    &[Place::X0, Place::Y2],
+    &[Place::X1, Place::Y2],
+    &[Place::X0, Place::Px],
+    &[Place::X1, Place::Px],
+    &[Place::Y2, Place::Px],
+    &[Place::X0, Place::Py],
+    &[Place::X1, Place::Py],
+    &[Place::Y2, Place::Py],
+    &[Place::Px, Place::Py],
+    &[Place::X0, Place::P0],
+    &[Place::X1, Place::P0],
+    &[Place::Y2, Place::P0],
+    &[Place::Px, Place::P0],
+    &[Place::Py, Place::P0],
+    &[Place::X0, Place::P1],
+    &[Place::X1, Place::P1],
+    &[Place::Y2, Place::P1],
+    &[Place::Px, Place::P1],
+    &[Place::Py, Place::P1],
+    &[Place::P0, Place::P1],
+];
+
+static WIDE_LOSSES: [&[Place]; 16] = [
+    &[],
+    &[Place::X1],
+    &[Place::Y4],
+    &[Place::Px],
+    &[Place::Py],
+    &[Place::P0],
+    &[Place::X1, Place::Y4],
+    &[Place::X1, Place::Px],
+    &[Place::Y4, Place::Px],
+    &[Place::X1, Place::Py],
+    &[Place::Y4, Place::Py],
+    &[Place::Px, Place::Py],
+    &[Place::X1, Place::P0],
+    &[Place::Y4, Place::P0],
+    &[Place::Px, Place::P0],
+    &[Place::Py, Place::P0],
+];
+
+/// Those of a code.
+fn losses_of(code: Code) -> &'static [&'static [Place]] {
+    match code {
+        Code::Narrow => &NARROW_LOSSES,
+        Code::Wide => &WIDE_LOSSES,
+    }
+}
+
+/// Whether a repair of a stripe with these losses and changes makes no other fragment than the sample's and others of these.
+fn makes_nothing_else(
+    alloc: Global,
+    sample: &'static Sample,
+    lost: &'static [Place],
+    changes: Fragments<'_>,
+    others: Fragments<'_>,
+) -> Result<bool, AllocError> {
+    let case = Case {
+        sample,
+        lost,
+        changes,
+        repair: REPLACING,
+        ..WHOLE
+    };
+    let mut store = store_of(alloc, &case)?;
+    outcome_of(alloc, &mut store, &case, Act::Repair)?;
     for (place, bytes) in sample.fragments {
         if let Some(found) = store.fragment(sample.name, *place) {
-            let is_known = found == *bytes || is_change(changes, *place, found);
-            assert!(rt; is_known, "{} has {found:?} at {place:?}", sample.name);
+            if found != *bytes && bytes_at(others, *place) != Some(found) {
+                return Ok(false);
+            }
         }
     }
+    Ok(true)
 }
 
-/// Whether the bytes are those of a change at a place.
-fn is_change(changes: Changes<'_>, place: Place, found: &[u8]) -> bool {
-    for (changed, bytes) in changes {
-        if *changed == place && found == *bytes {
-            return true;
+/// Whether two fragments make nothing else, both where they are exchanged, with one more lost at most, and where they are changed.
+fn makes_pair_nothing_else(
+    alloc: Global,
+    sample: &'static Sample,
+    one: Place,
+    other: Place,
+) -> Result<bool, AllocError> {
+    let exchanged = [
+        (one, bytes_at(sample.fragments, other).unwrap_or(b"")),
+        (other, bytes_at(sample.fragments, one).unwrap_or(b"")),
+    ];
+    for lost in losses_of(sample.code) {
+        if lost.len() < 2 && !makes_nothing_else(alloc, sample, lost, &exchanged, &exchanged)? {
+            return Ok(false);
         }
     }
-    false
+    let first = flipped(sample, one);
+    let second = flipped(sample, other);
+    let changed = [(one, first.as_slice()), (other, second.as_slice())];
+    makes_nothing_else(alloc, sample, &[], &changed, &changed)
 }
 
-/// Asserts that a repair of a store with these losses and changes makes no other fragment than the sample's and the changes.
-fn assert_nothing_else(
-    rt: &impl Abort,
-    alloc: Global,
-    sample: &Sample,
-    lost: &[Place],
-    changes: Changes<'_>,
-    generations: Changes<'_>,
-) -> Result<(), AllocError> {
-    let mut store = changed_store(alloc, sample, lost, changes)?;
-    repair(alloc, &mut store, sample, true)?;
-    assert_known(rt, &store, sample, generations);
-    Ok(())
-}
-
-/// The same with nothing lost, and with each of some fragments lost.
-fn assert_nothing_else_without_one(
-    rt: &impl Abort,
-    alloc: Global,
-    sample: &Sample,
-    changes: Changes<'_>,
-    generations: Changes<'_>,
-) -> Result<(), AllocError> {
-    assert_nothing_else(rt, alloc, sample, &[], changes, generations)?;
-    for lost in to_be_lost(sample.code) {
-        assert_nothing_else(rt, alloc, sample, &[*lost], changes, generations)?;
-    }
-    Ok(())
-}
-
-/// Which fragments are lost in turn: some of each kind.
-fn to_be_lost(code: Code) -> &'static [Place] {
-    match code {
-        Code::Narrow => &[
-            Place::X0,
-            Place::X1,
-            Place::Y2,
-            Place::Px,
-            Place::Py,
-            Place::P0,
-            Place::P1,
-        ],
-        Code::Wide => &[Place::X1, Place::Y4, Place::Px, Place::Py, Place::P0],
-    }
-}
-
-/// Two fragments that are exchanged, with one more lost at most, or two that are changed.
 #[test]
 fn two_damaged_fragments_make_nothing_wrong(rt: HostRuntime) -> Result<(), AllocError> {
-    for sample in [narrow(), wide()] {
+    for sample in &BOTH {
         let places = sample.code.places();
         for (index, one) in places.iter().enumerate() {
             for other in &places[..index] {
-                assert_pair_makes_nothing_else(&rt, rt.alloc(), sample, *one, *other)?;
+                let is = makes_pair_nothing_else(rt.alloc(), sample, *one, *other)?;
+                assert_holds(&rt, is, one.name());
             }
         }
     }
     Ok(())
-}
-
-/// Asserts that two fragments make nothing else, both where they are exchanged and where they are changed.
-fn assert_pair_makes_nothing_else(
-    rt: &impl Abort,
-    alloc: Global,
-    sample: &Sample,
-    one: Place,
-    other: Place,
-) -> Result<(), AllocError> {
-    let exchanged = [
-        (one, fragment_of(sample, other)),
-        (other, fragment_of(sample, one)),
-    ];
-    assert_nothing_else_without_one(rt, alloc, sample, &exchanged, &exchanged)?;
-    let first = flipped(sample, one);
-    let second = flipped(sample, other);
-    let changed = [(one, first.as_slice()), (other, second.as_slice())];
-    assert_nothing_else(rt, alloc, sample, &[], &changed, &changed)
 }
 
 /// What x0 and the parities become where x0 becomes 01 23 45 67 89, by an independent computation.
@@ -153,196 +155,108 @@ static NEW_WIDE: [(Place, &[u8]); 4] = [
     (Place::P1, b"\x27\x82\x78\xbb\x4d"),
 ];
 
+/// The new fragments whose bits are set, and the old ones at the other three places.
+fn written_of(
+    sample: &'static Sample,
+    new: &[(Place, &'static [u8]); 4],
+    written: u8,
+) -> [(Place, &'static [u8]); 4] {
+    let mut bits = written;
+    let mut changes = *new;
+    for (place, bytes) in &mut changes {
+        if bits % 2 == 0 {
+            *bytes = bytes_at(sample.fragments, *place).unwrap_or(b"");
+        }
+        bits /= 2;
+    }
+    changes
+}
+
 /// An update that was torn: some of its four fragments are new, the others old, and one at most is lost. Each fragment is then of one
 /// generation or the other.
 #[test]
 fn torn_update_makes_nothing_of_neither_generation(rt: HostRuntime) -> Result<(), AllocError> {
-    for (sample, new) in [(narrow(), &NEW_NARROW), (wide(), &NEW_WIDE)] {
+    for (sample, new) in [(&BOTH[0], &NEW_NARROW), (&BOTH[1], &NEW_WIDE)] {
         for written in 0..16u8 {
-            let changes = written_of(rt.alloc(), new, written)?;
-            assert_nothing_else_without_one(&rt, rt.alloc(), sample, changes.as_slice(), new)?;
-        }
-    }
-    Ok(())
-}
-
-/// The fragments whose bits are set.
-fn written_of<'a>(
-    alloc: Global,
-    new: &[(Place, &'a [u8]); 4],
-    written: u8,
-) -> Result<Vec<(Place, &'a [u8])>, AllocError> {
-    let mut changes = Vec::new(alloc);
-    for (bit, fragment) in new.iter().enumerate() {
-        if bit < 4 && written >> bit & 1 == 1 {
-            changes.push(*fragment)?;
-        }
-    }
-    Ok(changes)
-}
-
-/// Whether a finding is of no damage, of the damage at a place that is the only suspect, or of just these suspects.
-fn is_expected(finding: &Finding, damaged: Place, expected: PlaceSet) -> bool {
-    match &finding.reason {
-        Reason::Damaged => finding.place == Some(damaged) && expected.len() == 1,
-        Reason::Suspected(suspects) => suspects.places == expected && expected.len() > 1,
-        Reason::Absent => true,
-        _ => false,
-    }
-}
-
-/// Whether a scrub says once that there is damage, and what is expected of it.
-fn is_suspected(outcome: &StripeOutcome, damaged: Place, expected: PlaceSet) -> bool {
-    let mut times = 0u8;
-    for finding in &outcome.findings {
-        if !is_expected(finding, damaged, expected) {
-            return false;
-        }
-        if !matches!(finding.reason, Reason::Absent) {
-            times = times.saturating_add(1);
-        }
-    }
-    times == 1
-}
-
-/// Asserts what a scrub says of a damaged fragment of a stripe of which these are lost, and, where fewer than two are, what a repair makes
-/// of it: it is replaced if it is named, and else nothing is written.
-fn assert_scrubbed_and_repaired(
-    rt: &impl Abort,
-    alloc: Global,
-    sample: &Sample,
-    lost: &[Place],
-    damaged: Place,
-) -> Result<(), AllocError> {
-    let bytes = flipped(sample, damaged);
-    let changes = [(damaged, bytes.as_slice())];
-    let mut store = changed_store(alloc, sample, lost, &changes)?;
-    let expected = suspects_of(sample.code, lost, damaged);
-    let is = is_suspected(&scrub(alloc, &store, sample)?, damaged, expected);
-    assert_holds(rt, is, damaged.name());
-    if lost.len() == 2 {
-        return Ok(());
-    }
-    let outcome = repair(alloc, &mut store, sample, true)?;
-    if expected.len() == 1 {
-        assert_holds(rt, outcome.is_checked, "it is checked");
-        assert_replaced(rt, &store, sample, (damaged, bytes.as_slice()));
-    } else {
-        assert_same(rt, &outcome.rebuilt.len(), &0);
-        assert_known(rt, &store, sample, &changes);
-    }
-    Ok(())
-}
-
-/// Asserts that all of a sample's fragments are there, and one that was damaged is kept.
-fn assert_replaced(
-    rt: &impl Abort,
-    store: &MemoryStore,
-    sample: &Sample,
-    (damaged, bytes): (Place, &[u8]),
-) {
-    assert_there(rt, store, sample, &[]);
-    assert!(rt; store.kept(sample.name, damaged) == Some(bytes));
-}
-
-/// A damaged fragment is named where nothing is lost, since any two stripes differ in four places; else the suspects are those that the
-/// ranks of the equations' columns say.
-#[test]
-fn one_damaged_fragment_is_named_or_suspected(rt: HostRuntime) -> Result<(), AllocError> {
-    for sample in [narrow(), wide()] {
-        let places = sample.code.places();
-        for damaged in places {
-            assert_scrubbed_and_repaired(&rt, rt.alloc(), sample, &[], *damaged)?;
-            assert_with_losses(&rt, rt.alloc(), sample, *damaged)?;
-        }
-    }
-    Ok(())
-}
-
-/// Asserts the same with one or two more lost.
-fn assert_with_losses(
-    rt: &impl Abort,
-    alloc: Global,
-    sample: &Sample,
-    damaged: Place,
-) -> Result<(), AllocError> {
-    let may_be_lost = to_be_lost(sample.code);
-    for (index, one) in may_be_lost.iter().enumerate() {
-        if *one != damaged {
-            assert_scrubbed_and_repaired(rt, alloc, sample, &[*one], damaged)?;
-            for other in &may_be_lost[..index] {
-                if *other != damaged {
-                    assert_scrubbed_and_repaired(rt, alloc, sample, &[*one, *other], damaged)?;
-                }
+            let changes = written_of(sample, new, written);
+            for lost in losses_of(sample.code) {
+                let is = lost.len() == 2
+                    || makes_nothing_else(rt.alloc(), sample, lost, &changes, new)?;
+                assert_holds(&rt, is, sample.name);
             }
         }
     }
     Ok(())
 }
 
-/// How a stripe is repaired where only one fragment is taken to be damaged.
-fn by_guess(code: Code) -> Repair {
-    Repair {
-        code,
-        reads: Reads::All,
-        replace_damaged: true,
-        assume_one_damaged: true,
-        elsewhere: false,
-    }
-}
-
-/// Whether a finding says that the fragment at a place was taken for the damaged one.
-fn is_guessed(outcome: &StripeOutcome, place: Place) -> bool {
+/// Whether a scrub says once that there is damage: at a place that is the only suspect, or at one of just these.
+fn is_suspected(outcome: &StripeOutcome, damaged: Place, expected: PlaceSet) -> bool {
+    let mut is_said = false;
     for finding in &outcome.findings {
-        if finding.place == Some(place) && matches!(finding.reason, Reason::TakenForDamaged) {
-            return true;
+        let is_damage = match &finding.reason {
+            Reason::Absent => continue,
+            Reason::Damaged => finding.place == Some(damaged) && expected.len() == 1,
+            Reason::Suspected(suspects) => suspects.places == expected && expected.len() > 1,
+            _ => false,
+        };
+        if is_said || !is_damage {
+            return false;
         }
+        is_said = true;
     }
-    false
+    is_said
 }
 
-/// Whether px alone was rebuilt, unchecked, by the guess that x2 is damaged.
-fn is_by_guess(outcome: &StripeOutcome) -> bool {
-    is_guessed(outcome, Place::X2)
-        && !outcome.is_checked
-        && outcome.rebuilt.as_slice() == [Place::Px].as_slice()
-}
-
-/// Asserts that of a stripe with these changes, and without px, x2 is taken for the damaged one: px is rebuilt from the guess, which is
-/// unchecked, and x2 stays.
-fn assert_guessed(
-    rt: &impl Abort,
+/// Whether a scrub says of a damaged fragment, which is the only change of a stripe of which these are lost, what it must, and, where fewer
+/// than two are, a repair makes of it what it must: it is replaced if it is named, and else nothing is written. One that is lost isn't
+/// damaged.
+fn is_named_or_suspected(
     alloc: Global,
-    sample: &Sample,
-    changes: Changes<'_>,
-    is_right: bool,
-) -> Result<(), AllocError> {
-    let mut store = changed_store(alloc, sample, &[Place::Px], changes)?;
-    let guess = by_guess(sample.code);
-    let outcome = repair_as(alloc, &mut store, sample, &guess)?;
-    assert_holds(rt, is_by_guess(&outcome), "px is rebuilt by a guess");
-    assert_holds(rt, store.kept(sample.name, Place::X2).is_none(), "x2 stays");
-    assert_same(rt, &is_px(&store, sample), &is_right);
-    Ok(())
+    sample: &'static Sample,
+    lost: &'static [Place],
+    damaged: Place,
+    changes: Fragments<'_>,
+) -> Result<bool, AllocError> {
+    if lost.contains(&damaged) {
+        return Ok(true);
+    }
+    let expected = suspects_of(sample.code, lost, damaged);
+    let is_named = expected.len() == 1;
+    let case = Case {
+        sample,
+        lost,
+        changes,
+        repair: REPLACING,
+        left: if is_named { &[] } else { sample.code.places() },
+        ..WHOLE
+    };
+    let mut store = store_of(alloc, &case)?;
+    let scrubbed = outcome_of(alloc, &mut store, &case, Act::Scrub)?;
+    if lost.len() == 2 || !is_suspected(&scrubbed, damaged, expected) {
+        return Ok(is_suspected(&scrubbed, damaged, expected));
+    }
+    let outcome = outcome_of(alloc, &mut store, &case, Act::Repair)?;
+    let is_told = if is_named {
+        outcome.is_checked
+    } else {
+        outcome.rebuilt.is_empty()
+    };
+    Ok(is_told && is_left_in(&store, &case))
 }
 
-/// Whether a sample's px is there.
-fn is_px(store: &MemoryStore, sample: &Sample) -> bool {
-    store.fragment(sample.name, Place::Px) == Some(fragment_of(sample, Place::Px))
-}
-
-/// A guess that is right, and one that is wrong: without px, x0 and x1 that are exchanged look like a damaged x2.
+/// A damaged fragment is named where nothing is lost, since any two stripes differ in four places; else the suspects are those that the
+/// ranks of the equations' columns say.
 #[test]
-fn what_is_rebuilt_by_a_guess_is_unchecked(rt: HostRuntime) -> Result<(), AllocError> {
-    for sample in [narrow(), wide()] {
-        let bytes = flipped(sample, Place::X2);
-        let damaged = [(Place::X2, bytes.as_slice())];
-        assert_guessed(&rt, rt.alloc(), sample, &damaged, true)?;
-        let exchanged = [
-            (Place::X0, fragment_of(sample, Place::X1)),
-            (Place::X1, fragment_of(sample, Place::X0)),
-        ];
-        assert_guessed(&rt, rt.alloc(), sample, &exchanged, false)?;
+fn one_damaged_fragment_is_named_or_suspected(rt: HostRuntime) -> Result<(), AllocError> {
+    for sample in &BOTH {
+        for damaged in sample.code.places() {
+            let bytes = flipped(sample, *damaged);
+            let changes = [(*damaged, bytes.as_slice())];
+            for lost in losses_of(sample.code) {
+                let is = is_named_or_suspected(rt.alloc(), sample, lost, *damaged, &changes)?;
+                assert_holds(&rt, is, damaged.name());
+            }
+        }
     }
     Ok(())
 }

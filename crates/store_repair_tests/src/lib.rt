@@ -5,15 +5,17 @@
 #[cfg(test)]
 mod asserting;
 #[cfg(test)]
-mod checked;
-#[cfg(test)]
-mod coverage;
+mod cases;
 #[cfg(test)]
 mod crashes;
 #[cfg(test)]
 mod damages;
 #[cfg(test)]
+mod folder_cases;
+#[cfg(test)]
 mod lengths;
+#[cfg(test)]
+mod losses;
 #[cfg(test)]
 mod ranks;
 #[cfg(test)]

@@ -1,371 +1,354 @@
-//! What a repair of a stripe leaves.
-use crate::asserting::{assert_holds, assert_same};
-use crate::samples::{
-    Sample, assert_there, is_there, narrow, put_without, repair, repair_from_few, short, wide,
+//! What a repair of a stripe says and leaves.
+use crate::asserting::assert_holds;
+use crate::cases::{
+    Act, CHECKED, Case, FEW, FROM_ALL, REPLACING, WHOLE, is_left, is_left_in, is_repaired,
+    outcome_of, put_case, store_of,
 };
-use lrc_code::Place;
-use std::alloc::{AllocError, Global};
-use std::process::Abort;
-use store_repair::{MemoryStore, Reason, StripeOutcome};
+use crate::lengths::EMPTY;
+use crate::samples::{NARROW, WIDE};
+use lrc_code::{Code, Place};
+use std::alloc::AllocError;
+use store_repair::{MemoryStore, Reads, Repair};
 
-/// Whether these fragments were rebuilt, from so many survivors.
-fn is_rebuilt(outcome: &StripeOutcome, rebuilt: &[Place], survivors: usize) -> bool {
-    outcome.rebuilt.as_slice() == rebuilt && outcome.survivors.len() == survivors
-}
+/// One that takes only one fragment to be damaged.
+const GUESSING: Repair = Repair {
+    code: Code::Narrow,
+    reads: Reads::All,
+    replace_damaged: true,
+    assume_one_damaged: true,
+    elsewhere: false,
+};
 
-/// Whether the short stripe's py is this.
-fn is_py(store: &MemoryStore, bytes: &[u8]) -> bool {
-    is_there(store, short().name, Place::Py, bytes)
-}
+const DAMAGED: &str = "is damaged: only without it the others belong together";
 
-/// Whether this is kept of it under its second name.
-fn is_kept(store: &MemoryStore, bytes: Option<&[u8]>) -> bool {
-    store.kept(short().name, Place::Py) == bytes
-}
+const TAKEN: &str =
+    "is taken for the damaged one, which is a guess: only without it the others belong together";
 
-/// A store with a stripe but for these fragments.
-fn store_without(
-    alloc: Global,
-    sample: &Sample,
-    lost: &[Place],
-) -> Result<MemoryStore, AllocError> {
-    let mut store = MemoryStore::new(alloc);
-    put_without(&mut store, sample, lost)?;
-    Ok(store)
-}
+const NO_CHECK: &str = "isn't replaced: no check covers what would be put in its place";
 
-/// Asserts that the stripe comes back whole where these fragments are lost.
-fn assert_comes_back(
-    rt: &impl Abort,
-    alloc: Global,
-    sample: &Sample,
-    lost: &[Place],
-) -> Result<(), AllocError> {
-    let mut store = store_without(alloc, sample, lost)?;
-    let outcome = repair(alloc, &mut store, sample, false)?;
-    assert_same(rt, &outcome.rebuilt.len(), &lost.len());
-    assert_there(rt, &store, sample, &[]);
-    Ok(())
-}
-
-/// Asserts that it does where a place is lost with any two before it.
-fn assert_any_come_back(
-    rt: &impl Abort,
-    alloc: Global,
-    sample: &Sample,
-    (one, before): (Place, &[Place]),
-) -> Result<(), AllocError> {
-    for (second, another) in before.iter().enumerate() {
-        for third in &before[..second] {
-            assert_comes_back(rt, alloc, sample, &[one, *another, *third])?;
-        }
-    }
-    Ok(())
-}
-
-/// Each loss of three fragments is one that both codes recover.
-#[test]
-fn three_lost_fragments_come_back(rt: HostRuntime) -> Result<(), AllocError> {
-    for sample in [narrow(), wide()] {
-        let places = sample.code.places();
-        for (first, one) in places.iter().enumerate() {
-            assert_any_come_back(&rt, rt.alloc(), sample, (*one, &places[..first]))?;
-        }
-    }
-    Ok(())
-}
-
-/// Whether a place was rebuilt from few survivors, whose number for a place of a group and for another are these.
-fn is_from_few(
-    outcome: &StripeOutcome,
-    place: Place,
-    (of_group, of_global): (usize, usize),
-) -> bool {
-    let survivors = match place.group() {
-        Some(_) => of_group,
-        None => of_global,
-    };
-    is_rebuilt(outcome, &[place], survivors) && !outcome.is_checked && outcome.findings.is_empty()
-}
-
-/// Asserts that a place that is lost alone is.
-fn assert_from_few(
-    rt: &impl Abort,
-    alloc: Global,
-    sample: &Sample,
-    place: Place,
-    survivors: (usize, usize),
-) -> Result<(), AllocError> {
-    let mut store = store_without(alloc, sample, &[place])?;
-    let outcome = repair_from_few(alloc, &mut store, sample)?;
-    assert_holds(rt, is_from_few(&outcome, place, survivors), place.name());
-    assert_there(rt, &store, sample, &[]);
-    Ok(())
-}
-
-/// A lost fragment of a group is rebuilt from the others of its group: 3 reads of the (6,2,2) code and 6 of the (12,2,2) code (Huang et
-/// al., section 2). A global parity takes all data fragments, or as many others.
-#[test]
-fn few_survivors_are_read(rt: HostRuntime) -> Result<(), AllocError> {
-    for (sample, survivors) in [(narrow(), (3, 6)), (wide(), (6, 12))] {
-        for place in sample.code.places() {
-            assert_from_few(&rt, rt.alloc(), sample, *place, survivors)?;
-        }
-    }
-    Ok(())
-}
-
-/// A stripe without x0, whose x1 has no bytes.
-fn store_without_two(alloc: Global) -> Result<MemoryStore, AllocError> {
-    let mut store = store_without(alloc, narrow(), &[Place::X0])?;
-    store.put(narrow().name, Place::X1, b"")?;
-    Ok(store)
-}
-
-/// A fragment of another length isn't among the few; where two of a group are lost, a global is read for the second.
-#[test]
-fn a_stripe_that_lost_two_is_repaired_from_few_survivors(
-    rt: HostRuntime,
-) -> Result<(), AllocError> {
-    let mut store = store_without_two(rt.alloc())?;
-    let outcome = repair_from_few(rt.alloc(), &mut store, narrow())?;
-    assert_holds(&rt, is_rebuilt(&outcome, &[Place::X0], 6), "x0 of six");
-    assert_there(&rt, &store, narrow(), &[Place::X1]);
-    assert_holds(&rt, is_there(&store, narrow().name, Place::X1, b""), "x1");
-    Ok(())
-}
-
-/// Whether there are four findings, each of a fragment that isn't determined.
-fn are_four_undetermined(outcome: &StripeOutcome) -> bool {
-    for finding in &outcome.findings {
-        if !matches!(finding.reason, Reason::Several) {
-            return false;
-        }
-    }
-    outcome.findings.len() == 4
-}
-
-/// What few survivors don't determine isn't determined by all.
-#[test]
-fn few_survivors_leave_what_all_leave(rt: HostRuntime) -> Result<(), AllocError> {
-    let lost = [Place::X0, Place::Y0, Place::Y1, Place::Y2, Place::Py];
-    let mut store = store_without(rt.alloc(), short(), &lost)?;
-    let outcome = repair_from_few(rt.alloc(), &mut store, short())?;
-    assert_holds(&rt, is_rebuilt(&outcome, &[Place::X0], 3), "x0 of three");
-    assert_holds(
-        &rt,
-        are_four_undetermined(&outcome),
-        "the others are several",
-    );
-    Ok(())
-}
-
-/// Whether a fragment at a place is noted as damaged.
-fn is_damaged(outcome: &StripeOutcome, place: Place) -> bool {
-    for finding in &outcome.findings {
-        if finding.place == Some(place) && matches!(finding.reason, Reason::Damaged) {
-            return true;
-        }
-    }
-    false
-}
-
-/// A stripe without x0, whose py is 01 in place of 07.
-fn damaged_store(alloc: Global) -> Result<MemoryStore, AllocError> {
-    let mut store = store_without(alloc, short(), &[Place::X0])?;
-    store.put(short().name, Place::Py, b"\x01")?;
-    Ok(store)
-}
-
-/// Whether py is as it was, or was replaced and is kept under its second name.
-fn is_damaged_or_replaced(store: &MemoryStore) -> bool {
-    (is_kept(store, None) && is_py(store, b"\x01"))
-        || (is_kept(store, Some(b"\x01")) && is_py(store, b"\x07"))
-}
-
-/// Whether py is damaged, and both it and x0 were rebuilt and checked.
-fn is_replaced(outcome: &StripeOutcome) -> bool {
-    is_damaged(outcome, Place::Py) && outcome.is_checked && outcome.rebuilt.len() == 2
-}
-
-#[test]
-fn damaged_fragment_is_replaced_and_kept(rt: HostRuntime) -> Result<(), AllocError> {
-    let mut store = damaged_store(rt.alloc())?;
-    let outcome = repair(rt.alloc(), &mut store, short(), true)?;
-    assert_holds(
-        &rt,
-        is_replaced(&outcome),
-        "py is damaged, and both are rebuilt",
-    );
-    assert_there(&rt, &store, short(), &[]);
-    assert_holds(&rt, is_kept(&store, Some(b"\x01")), "py is kept");
-    Ok(())
-}
-
-/// Whether py is damaged, and x0 alone was rebuilt.
-fn is_left(outcome: &StripeOutcome) -> bool {
-    is_damaged(outcome, Place::Py) && outcome.rebuilt.as_slice() == [Place::X0].as_slice()
-}
-
-#[test]
-fn damaged_fragment_stays_where_none_is_to_be_replaced(rt: HostRuntime) -> Result<(), AllocError> {
-    let mut store = damaged_store(rt.alloc())?;
-    let outcome = repair(rt.alloc(), &mut store, short(), false)?;
-    assert_holds(&rt, is_left(&outcome), "py is damaged, and x0 is rebuilt");
-    assert_there(&rt, &store, short(), &[Place::Py]);
-    assert_holds(&rt, is_py(&store, b"\x01"), "py stays");
-    assert_holds(&rt, is_kept(&store, None), "py isn't kept");
-    Ok(())
-}
-
-/// A store of which py was replaced, and is damaged once more.
-fn damaged_twice(alloc: Global) -> Result<MemoryStore, AllocError> {
-    let mut store = damaged_store(alloc)?;
-    repair(alloc, &mut store, short(), true)?;
-    store.put(short().name, Place::Py, b"\x02")?;
-    Ok(store)
-}
-
-/// What was replaced before isn't lost: a second one stays where it is.
-#[test]
-fn second_damaged_fragment_of_a_place_stays(rt: HostRuntime) -> Result<(), AllocError> {
-    let mut store = damaged_twice(rt.alloc())?;
-    let outcome = repair(rt.alloc(), &mut store, short(), true)?;
-    assert_same(&rt, &outcome.rebuilt.len(), &0);
-    assert_holds(&rt, is_py(&store, b"\x02"), "the second stays");
-    assert_holds(&rt, is_kept(&store, Some(b"\x01")), "the first is kept");
-    Ok(())
-}
+const SEVERAL: &str = "can't be rebuilt: the fragments that survive don't determine it";
 
 /// The fragments of group Y.
 const GROUP: &[Place] = &[Place::Y0, Place::Y1, Place::Y2, Place::Py];
 
-/// Asserts that of the short stripe all but these are rebuilt.
-fn assert_all_but_group(rt: &impl Abort, alloc: Global, lost: &[Place]) -> Result<(), AllocError> {
-    let mut store = store_without(alloc, short(), lost)?;
-    let outcome = repair(alloc, &mut store, short(), true)?;
-    assert_same(
-        rt,
-        &outcome.rebuilt.len().saturating_add(GROUP.len()),
-        &lost.len(),
-    );
-    assert_there(rt, &store, short(), GROUP);
-    assert_holds(rt, has_none_of_group(&store), "group Y is left");
+/// They, none of which is determined.
+const NONE_OF_GROUP: &[(Option<Place>, &str)] = &[
+    (Some(Place::Y0), SEVERAL),
+    (Some(Place::Y1), SEVERAL),
+    (Some(Place::Y2), SEVERAL),
+    (Some(Place::Py), SEVERAL),
+];
+
+/// A stripe without x0, whose py is 01 in place of 07.
+const REPLACED: Case<'static> = Case {
+    name: "a damaged fragment is replaced and kept",
+    lost: &[Place::X0],
+    changes: &[(Place::Py, b"\x01")],
+    repair: REPLACING,
+    rebuilt: &[Place::X0, Place::Py],
+    survivors: 8,
+    said: &[(Some(Place::Py), DAMAGED)],
+    ..WHOLE
+};
+
+static CASES: [Case<'static>; 9] = [
+    Case {
+        name: "two of a group are covered by no survivors: all are read",
+        sample: &NARROW,
+        lost: &[Place::X0, Place::X1],
+        repair: CHECKED,
+        rebuilt: &[Place::X0, Place::X1],
+        survivors: 8,
+        is_covered: false,
+        ..WHOLE
+    },
+    Case {
+        name: "of the survivors that are read one is damaged: all are read, which say which it is",
+        lost: &[Place::X0],
+        changes: &[(Place::Y1, b"\x77")],
+        repair: CHECKED,
+        rebuilt: &[Place::X0],
+        survivors: 8,
+        said: &[(Some(Place::Y1), DAMAGED)],
+        left: &[Place::Y1],
+        ..WHOLE
+    },
+    Case {
+        name: "a stripe that lost nothing isn't read, so that damage in it isn't looked for",
+        changes: &[(Place::Y0, b"\x77")],
+        repair: CHECKED,
+        survivors: 0,
+        is_checked: false,
+        left: &[Place::Y0],
+        ..WHOLE
+    },
+    Case {
+        name: "a fragment of another length isn't among the few; for the second of a group a global is read",
+        sample: &NARROW,
+        lost: &[Place::X0],
+        changes: &[(Place::X1, b"")],
+        repair: FEW,
+        rebuilt: &[Place::X0],
+        survivors: 6,
+        is_checked: false,
+        is_covered: false,
+        said: &[(
+            Some(Place::X1),
+            "has another length than the other fragments of the stripe",
+        )],
+        left: &[Place::X1],
+        ..WHOLE
+    },
+    Case {
+        name: "what few survivors don't determine isn't determined by all",
+        lost: &[Place::X0, Place::Y0, Place::Y1, Place::Y2, Place::Py],
+        repair: FEW,
+        rebuilt: &[Place::X0],
+        survivors: 3,
+        is_checked: false,
+        is_covered: false,
+        said: NONE_OF_GROUP,
+        left: GROUP,
+        ..WHOLE
+    },
+    REPLACED,
+    Case {
+        name: "a damaged fragment stays where none is to be replaced",
+        repair: FROM_ALL,
+        rebuilt: &[Place::X0],
+        left: &[Place::Py],
+        ..REPLACED
+    },
+    Case {
+        name: "of all of a group nothing is determined",
+        lost: GROUP,
+        repair: REPLACING,
+        survivors: 6,
+        said: NONE_OF_GROUP,
+        left: GROUP,
+        ..WHOLE
+    },
+    Case {
+        name: "what else is lost is determined",
+        lost: &[Place::X0, Place::Y0, Place::Y1, Place::Y2, Place::Py],
+        repair: REPLACING,
+        rebuilt: &[Place::X0],
+        survivors: 5,
+        is_checked: false,
+        is_covered: false,
+        said: NONE_OF_GROUP,
+        left: GROUP,
+        ..WHOLE
+    },
+];
+
+/// Cases in which what is rebuilt isn't covered, and may be wrong.
+static UNCOVERED: [Case<'static>; 7] = [
+    EMPTY,
+    DAMAGE_ALIKE,
+    Case {
+        sample: &WIDE,
+        changes: &[
+            (Place::X2, b"\x0a\xe6\x8b\x3b\xe6"),
+            (Place::Px, b"\x2c\xab\xad\x9a\xeb"),
+        ],
+        survivors: 14,
+        ..DAMAGE_ALIKE
+    },
+    GUESSED,
+    Case {
+        sample: &WIDE,
+        changes: &[(Place::X2, b"\x0a\xbc\xd1\x61\xbc")],
+        survivors: 14,
+        ..GUESSED
+    },
+    Case {
+        name: WRONG_GUESS,
+        changes: &[
+            (Place::X0, b"\x9a\x9a\x78\x06\x94"),
+            (Place::X1, b"\x28\xc3\xa6\x84\x1c"),
+        ],
+        is_right: false,
+        left: &[Place::X0, Place::X1],
+        ..GUESSED
+    },
+    Case {
+        name: WRONG_GUESS,
+        sample: &WIDE,
+        changes: &[
+            (Place::X0, b"\xd4\x6b\xce\x4f\xc4"),
+            (Place::X1, b"\x12\x55\xfa\x7b\x54"),
+        ],
+        is_right: false,
+        survivors: 14,
+        left: &[Place::X0, Place::X1],
+        ..GUESSED
+    },
+];
+
+/// Where x0 and x1 are lost, x2 and px that are damaged by the same bytes look like those of a stripe, since the coefficients of x0, x1 and
+/// x2 add up to 00, and their squares do: what is rebuilt is wrong, nothing shows, and it isn't covered. Here it is 5a of each byte.
+const DAMAGE_ALIKE: Case<'static> = Case {
+    name: "damage of two that doesn't show is not covered",
+    sample: &NARROW,
+    lost: &[Place::X0, Place::X1],
+    changes: &[
+        (Place::X2, b"\x9a\x2a\x17\xfc\x90"),
+        (Place::Px, b"\x28\x73\xc9\x7e\x18"),
+    ],
+    rebuilt: &[Place::X0, Place::X1],
+    is_right: false,
+    survivors: 8,
+    is_covered: false,
+    left: &[Place::X2, Place::Px],
+    ..WHOLE
+};
+
+/// Without px, x2 is taken for the damaged one: px is rebuilt from the guess, and x2 stays. The first byte of x2 is changed by 5a.
+const GUESSED: Case<'static> = Case {
+    name: "what is rebuilt by a guess is unchecked",
+    sample: &NARROW,
+    lost: &[Place::Px],
+    changes: &[(Place::X2, b"\x9a\x70\x4d\xa6\xca")],
+    repair: GUESSING,
+    rebuilt: &[Place::Px],
+    survivors: 8,
+    is_checked: false,
+    is_covered: false,
+    said: &[(Some(Place::X2), TAKEN), (Some(Place::X2), NO_CHECK)],
+    left: &[Place::X2],
+    ..WHOLE
+};
+
+const WRONG_GUESS: &str = "without px, x0 and x1 that are exchanged look like a damaged x2";
+
+#[test]
+fn each_case_is_repaired_as_it_says(rt: HostRuntime) -> Result<(), AllocError> {
+    for case in &CASES {
+        let is = is_repaired(rt.alloc(), case)?;
+        assert_holds(&rt, is, case.name);
+    }
     Ok(())
 }
 
-fn has_none_of_group(store: &MemoryStore) -> bool {
-    for place in GROUP {
-        if store.fragment(short().name, *place).is_some() {
-            return false;
-        }
+#[test]
+fn what_is_not_covered_may_be_wrong(rt: HostRuntime) -> Result<(), AllocError> {
+    for case in &UNCOVERED {
+        let is = is_repaired(rt.alloc(), case)?;
+        assert_holds(&rt, is, case.name);
     }
-    true
+    Ok(())
 }
 
-/// Of all of group Y nothing is determined; x0, where it is lost too, is.
+/// The damaged stripe. Tests that use a static are proved faster than those that use a constant, which each use lays out anew.
+static DAMAGED_ONE: Case<'static> = REPLACED;
+
+/// The same, of which nothing is rebuilt.
+static UNTOUCHED_ONE: Case<'static> = UNTOUCHED;
+
+/// A stripe of which as much is repaired as is lost.
+static WHOLE_ONE: Case<'static> = WHOLE;
+
+/// What was replaced before isn't lost: a second one stays where it is.
 #[test]
-fn what_is_not_determined_is_left(rt: HostRuntime) -> Result<(), AllocError> {
-    let more = [Place::X0, Place::Y0, Place::Y1, Place::Y2, Place::Py];
-    assert_all_but_group(&rt, rt.alloc(), GROUP)?;
-    assert_all_but_group(&rt, rt.alloc(), &more)
+fn second_damaged_fragment_of_a_place_stays(rt: HostRuntime) -> Result<(), AllocError> {
+    let case = &DAMAGED_ONE;
+    let mut store = store_of(rt.alloc(), case)?;
+    outcome_of(rt.alloc(), &mut store, case, Act::Repair)?;
+    store.put(case.sample.name, Place::Py, b"\x02")?;
+    let outcome = outcome_of(rt.alloc(), &mut store, case, Act::Repair)?;
+    let is = outcome.rebuilt.is_empty()
+        && store.fragment(case.sample.name, Place::Py) == Some(b"\x02".as_slice())
+        && store.kept(case.sample.name, Place::Py) == Some(b"\x01".as_slice());
+    assert_holds(&rt, is, "the second stays, and the first is kept");
+    Ok(())
 }
+
+/// Stripes of one store, of which the last is repaired.
+static STRIPES: [Case<'static>; 3] = [
+    UNTOUCHED,
+    Case {
+        sample: &NARROW,
+        lost: &[Place::X0],
+        left: &[Place::X0],
+        ..WHOLE
+    },
+    OF_TWO,
+];
+
+const OF_TWO: Case<'static> = Case {
+    sample: &WIDE,
+    lost: &[Place::X3, Place::Y5],
+    repair: REPLACING,
+    ..WHOLE
+};
 
 /// Other stripes of the store have losses and damage of their own.
 #[test]
 fn other_stripes_are_as_they_were(rt: HostRuntime) -> Result<(), AllocError> {
-    let mut store = damaged_store(rt.alloc())?;
-    put_without(&mut store, narrow(), &[Place::X0])?;
-    put_without(&mut store, wide(), &[Place::X3, Place::Y5])?;
-    repair(rt.alloc(), &mut store, wide(), true)?;
-    assert_there(&rt, &store, wide(), &[]);
-    assert_others_there(&rt, &store);
+    let mut store = MemoryStore::new(rt.alloc());
+    for case in &STRIPES {
+        put_case(&mut store, case)?;
+    }
+    outcome_of(rt.alloc(), &mut store, &STRIPES[2], Act::Repair)?;
+    for case in &STRIPES {
+        assert_holds(&rt, is_left_in(&store, case), case.sample.name);
+    }
     Ok(())
-}
-
-/// Asserts that the two other stripes are as they were.
-fn assert_others_there(rt: &impl Abort, store: &MemoryStore) {
-    assert_there(rt, store, narrow(), &[Place::X0]);
-    assert_there(rt, store, short(), &[Place::X0, Place::Py]);
-    assert!(rt; are_others_damaged(store));
-}
-
-/// Whether both are without x0, and the short one has its damaged py.
-fn are_others_damaged(store: &MemoryStore) -> bool {
-    store.fragment(narrow().name, Place::X0).is_none()
-        && store.fragment(short().name, Place::X0).is_none()
-        && is_py(store, b"\x01")
-        && is_kept(store, None)
 }
 
 /// So many bytes are longer than a window.
 const LONG: usize = 200_001;
 
-/// A store with the short stripe, each of whose bytes is repeated so often, but for x1 and p1.
-fn long_store(alloc: Global) -> Result<MemoryStore, AllocError> {
-    let mut store = MemoryStore::new(alloc);
-    for (place, bytes) in short().fragments {
+/// Fragments that are longer than a window. At each position they are those of the short stripe, without x1 and p1.
+#[test]
+fn long_fragments_come_back(rt: HostRuntime) -> Result<(), AllocError> {
+    let sample = WHOLE_ONE.sample;
+    let mut store = MemoryStore::new(rt.alloc());
+    for (place, bytes) in sample.fragments {
         if *place != Place::X1 && *place != Place::P1 {
-            let long = vec![in alloc; *bytes.first().unwrap_or(&0); LONG]?;
-            store.put(short().name, *place, long.as_slice())?;
+            let long = vec![in rt.alloc(); *bytes.first().unwrap_or(&0); LONG]?;
+            store.put(sample.name, *place, long.as_slice())?;
         }
     }
-    Ok(store)
-}
-
-/// Whether the short stripe has a fragment of so many bytes of this value.
-fn is_long(store: &MemoryStore, place: Place, byte: u8) -> bool {
-    match store.fragment(short().name, place) {
-        Some(bytes) => bytes.len() == LONG && has_only(bytes, byte),
-        None => false,
+    let outcome = outcome_of(rt.alloc(), &mut store, &WHOLE_ONE, Act::Repair)?;
+    assert_holds(&rt, outcome.rebuilt.len() == 2, "two are rebuilt");
+    for (place, byte) in [(Place::X1, 0x02), (Place::P1, 0x6e)] {
+        let long = vec![in rt.alloc(); byte; LONG]?;
+        let is = store.fragment(sample.name, place) == Some(long.as_slice());
+        assert_holds(&rt, is, place.name());
     }
+    Ok(())
 }
 
-fn has_only(bytes: &[u8], byte: u8) -> bool {
-    for found in bytes {
-        if *found != byte {
+/// The damaged stripe, of which nothing is rebuilt.
+const UNTOUCHED: Case<'static> = Case {
+    left: &[Place::X0, Place::Py],
+    ..REPLACED
+};
+
+/// Whether each name of a store is as it was or rebuilt, and rebuilt where the repair is done.
+fn is_as_it_was_or_rebuilt(store: &MemoryStore, is_repaired: bool) -> bool {
+    let sample = DAMAGED_ONE.sample;
+    for place in sample.code.places() {
+        let bytes = store.fragment(sample.name, *place);
+        let kept = store.kept(sample.name, *place);
+        if !is_left(&DAMAGED_ONE, *place, bytes, kept)
+            && (is_repaired || !is_left(&UNTOUCHED_ONE, *place, bytes, kept))
+        {
             return false;
         }
     }
     true
 }
 
-/// Fragments that are longer than a window. At each position they are those of the short stripe.
-#[test]
-fn long_fragments_come_back(rt: HostRuntime) -> Result<(), AllocError> {
-    let mut store = long_store(rt.alloc())?;
-    let outcome = repair(rt.alloc(), &mut store, short(), false)?;
-    assert_same(&rt, &outcome.rebuilt.len(), &2);
-    assert_holds(&rt, is_long(&store, Place::X1, 0x02), "x1");
-    assert_holds(&rt, is_long(&store, Place::P1, 0x6e), "p1");
-    Ok(())
-}
-
-/// Asserts of a store whose repair ended so that each name is as it was or rebuilt.
-fn assert_as_it_was_or_rebuilt(rt: &impl Abort, store: &MemoryStore, is_repaired: bool) {
-    assert_there(rt, store, short(), &[Place::X0, Place::Py]);
-    assert!(rt;
-        is_damaged_or_replaced(store),
-        "py is neither as it was nor replaced"
-    );
-    assert!(rt; is_x0_rebuilt(store, is_repaired), "x0 is not rebuilt");
-    assert!(rt; !is_repaired || !is_kept(store, None), "py is not replaced");
-}
-
-/// Whether x0 was rebuilt, or is absent where the repair isn't done.
-fn is_x0_rebuilt(store: &MemoryStore, is_repaired: bool) -> bool {
-    match store.fragment(short().name, Place::X0) {
-        Some(bytes) => bytes == b"\x01".as_slice(),
-        None => !is_repaired,
-    }
-}
-
 /// In a run that refuses an allocation this ends with the refusal, and then each name is as it was or rebuilt.
 #[test]
 fn each_name_is_as_it_was_or_rebuilt(rt: HostRuntime) -> Result<(), AllocError> {
-    let mut store = damaged_store(rt.alloc())?;
-    let repaired = repair(rt.alloc(), &mut store, short(), true);
-    assert_as_it_was_or_rebuilt(&rt, &store, repaired.is_ok());
+    let mut store = store_of(rt.alloc(), &DAMAGED_ONE)?;
+    let repaired = outcome_of(rt.alloc(), &mut store, &DAMAGED_ONE, Act::Repair);
+    let is = is_as_it_was_or_rebuilt(&store, repaired.is_ok());
+    assert_holds(&rt, is, "each is as it was or rebuilt");
     repaired?;
     Ok(())
 }

@@ -1,26 +1,19 @@
-//! Whole stripes, and repairs of them.
+//! Whole stripes.
 use lrc_code::{Code, Place};
-use std::alloc::{AllocError, Global};
-use std::process::Abort;
-use store_repair::{
-    Found, MemoryStore, Reads, Repair, Stripe, StripeFiles, StripeOutcome, plan_stripe,
-    repair_stripe, scrub_stripe,
-};
+
+/// Fragments, each with its place.
+pub(crate) type Fragments<'a> = &'a [(Place, &'a [u8])];
 
 /// A whole stripe.
 #[derive(Clone, Copy)]
 pub(crate) struct Sample {
     pub name: &'static str,
     pub code: Code,
-    pub fragments: &'static [(Place, &'static [u8])],
+    pub fragments: Fragments<'static>,
 }
 
 /// The stripe of the (6,2,2) code whose data are 01 to 06, by hand.
-pub(crate) fn short() -> &'static Sample {
-    &SHORT
-}
-
-static SHORT: Sample = Sample {
+pub(crate) const SHORT: Sample = Sample {
     name: "a",
     code: Code::Narrow,
     fragments: &[
@@ -38,11 +31,7 @@ static SHORT: Sample = Sample {
 };
 
 /// A stripe of the (6,2,2) code, with the parities that `tools/reference.py` gives.
-pub(crate) fn narrow() -> &'static Sample {
-    &NARROW
-}
-
-static NARROW: Sample = Sample {
+pub(crate) const NARROW: Sample = Sample {
     name: "narrow",
     code: Code::Narrow,
     fragments: &[
@@ -60,11 +49,7 @@ static NARROW: Sample = Sample {
 };
 
 /// A stripe of the (12,2,2) code, with the parities that `tools/reference.py` gives.
-pub(crate) fn wide() -> &'static Sample {
-    &WIDE
-}
-
-static WIDE: Sample = Sample {
+pub(crate) const WIDE: Sample = Sample {
     name: "wide",
     code: Code::Wide,
     fragments: &[
@@ -87,123 +72,15 @@ static WIDE: Sample = Sample {
     ],
 };
 
-/// Puts the fragments of a stripe into a store, but for those at lost places.
-pub(crate) fn put_without(
-    store: &mut MemoryStore,
-    sample: &Sample,
-    lost: &[Place],
-) -> Result<(), AllocError> {
-    for (place, bytes) in sample.fragments {
-        if !lost.contains(place) {
-            store.put(sample.name, *place, bytes)?;
-        }
-    }
-    Ok(())
-}
+/// A stripe of each code.
+pub(crate) static BOTH: [Sample; 2] = [NARROW, WIDE];
 
-/// Repairs a stripe of a store from all its survivors.
-pub(crate) fn repair(
-    alloc: Global,
-    store: &mut MemoryStore,
-    sample: &Sample,
-    replace_damaged: bool,
-) -> Result<StripeOutcome, AllocError> {
-    let repair = Repair {
-        code: sample.code,
-        reads: Reads::All,
-        replace_damaged,
-        assume_one_damaged: false,
-        elsewhere: false,
-    };
-    repair_as(alloc, store, sample, &repair)
-}
-
-/// Repairs a stripe of a store from as few survivors as determine what is lost.
-pub(crate) fn repair_from_few(
-    alloc: Global,
-    store: &mut MemoryStore,
-    sample: &Sample,
-) -> Result<StripeOutcome, AllocError> {
-    let repair = Repair {
-        code: sample.code,
-        reads: Reads::Few,
-        replace_damaged: false,
-        assume_one_damaged: false,
-        elsewhere: false,
-    };
-    repair_as(alloc, store, sample, &repair)
-}
-
-/// Repairs a stripe of a store.
-pub(crate) fn repair_as(
-    alloc: Global,
-    store: &mut MemoryStore,
-    sample: &Sample,
-    repair: &Repair,
-) -> Result<StripeOutcome, AllocError> {
-    let stripe = stripe_of(store, sample);
-    repair_stripe(alloc, store, repair, &stripe)
-}
-
-/// What a repair of a stripe of a store would do.
-pub(crate) fn plan(
-    alloc: Global,
-    store: &MemoryStore,
-    sample: &Sample,
-    repair: &Repair,
-) -> Result<StripeOutcome, AllocError> {
-    plan_stripe(alloc, store, repair, &stripe_of(store, sample))
-}
-
-/// Scrubs a stripe of a store.
-pub(crate) fn scrub(
-    alloc: Global,
-    store: &MemoryStore,
-    sample: &Sample,
-) -> Result<StripeOutcome, AllocError> {
-    scrub_stripe(alloc, store, sample.code, &stripe_of(store, sample))
-}
-
-/// What a store has under a stripe's names.
-fn stripe_of(store: &MemoryStore, sample: &Sample) -> Stripe<'static> {
-    let mut files = StripeFiles::new();
-    for place in Place::ALL {
-        if let Some(bytes) = store.fragment(sample.name, place) {
-            files.found[place.index()] = Found::File {
-                length: bytes.len() as u64,
-            };
-        }
-    }
-    Stripe {
-        name: sample.name,
-        files,
-    }
-}
-
-/// A sample's fragment at a place; none of its bytes, if it has none there.
-pub(crate) fn fragment_of(sample: &Sample, place: Place) -> &'static [u8] {
-    for (at, bytes) in sample.fragments {
+/// The bytes at a place, of some that are given with their places.
+pub(crate) fn bytes_at<'a>(fragments: &[(Place, &'a [u8])], place: Place) -> Option<&'a [u8]> {
+    for (at, bytes) in fragments {
         if *at == place {
-            return bytes;
+            return Some(*bytes);
         }
     }
-    b""
-}
-
-/// Whether a fragment is there with these bytes.
-pub(crate) fn is_there(store: &MemoryStore, stripe: &str, place: Place, bytes: &[u8]) -> bool {
-    store.fragment(stripe, place) == Some(bytes)
-}
-
-/// Asserts that all fragments of a stripe but those at lost places are there with their bytes.
-pub(crate) fn assert_there(rt: &impl Abort, store: &MemoryStore, sample: &Sample, lost: &[Place]) {
-    for (place, bytes) in sample.fragments {
-        if !lost.contains(place) {
-            assert!(rt;
-                is_there(store, sample.name, *place, bytes),
-                "{} at {place:?}",
-                sample.name
-            );
-        }
-    }
+    None
 }

@@ -1,39 +1,43 @@
 //! The calls of a store in memory.
-use crate::asserting::{assert_holds, assert_same};
+use crate::asserting::assert_holds;
 use lrc_code::Place;
 use std::alloc::AllocError;
 use std::io::{self, ErrorKind};
-use std::process::Abort;
-use store_repair::{Fragment, MemoryStore, NewFragment, Placed, Store};
+use store_repair::{Fragment, MemoryFragment, MemoryStore, NewFragment, Placed, Store};
+
+/// What is put into a store.
+static PUT: [(&str, Place, &[u8]); 4] = [
+    ("a", Place::X0, b"one"),
+    ("ab", Place::X0, b"two"),
+    ("a", Place::P1, b"three"),
+    ("a", Place::X0, b"four"),
+];
+
+/// What it has then.
+static FOUND: [(&str, Place, Option<&[u8]>); 5] = [
+    ("a", Place::X0, Some(b"four")),
+    ("ab", Place::X0, Some(b"two")),
+    ("a", Place::P1, Some(b"three")),
+    ("b", Place::X0, None),
+    ("a", Place::X1, None),
+];
 
 #[test]
 fn put_is_found(rt: HostRuntime) -> Result<(), AllocError> {
     let mut store = MemoryStore::new(rt.alloc());
-    store.put("a", Place::X0, b"one")?;
-    store.put("ab", Place::X0, b"two")?;
-    store.put("a", Place::P1, b"three")?;
-    store.put("a", Place::X0, b"four")?;
-    assert_has(&rt, &store, "a", Place::X0, Some(b"four"));
-    assert_has(&rt, &store, "ab", Place::X0, Some(b"two"));
-    assert_has(&rt, &store, "a", Place::P1, Some(b"three"));
-    assert_has(&rt, &store, "b", Place::X0, None);
-    assert_has(&rt, &store, "a", Place::X1, None);
-    assert_holds(&rt, store.kept("a", Place::X0).is_none(), "nothing is kept");
+    for (stripe, place, bytes) in &PUT {
+        store.put(stripe, *place, bytes)?;
+    }
+    for (stripe, place, bytes) in &FOUND {
+        let is = store.fragment(stripe, *place) == *bytes;
+        assert_holds(&rt, is && store.kept(stripe, *place).is_none(), stripe);
+    }
     Ok(())
 }
 
-/// Asserts what a store has of a stripe at a place.
-fn assert_has(
-    rt: &impl Abort,
-    store: &MemoryStore,
-    stripe: &str,
-    place: Place,
-    bytes: Option<&[u8]>,
-) {
-    assert!(rt;
-        store.fragment(stripe, place) == bytes,
-        "{stripe} {place:?}"
-    );
+/// Whether a store has these bytes under x0's name and its second name.
+fn has(store: &MemoryStore, bytes: Option<&[u8]>, kept: Option<&[u8]>) -> bool {
+    store.fragment("a", Place::X0) == bytes && store.kept("a", Place::X0) == kept
 }
 
 /// Why a fragment isn't opened, if it isn't.
@@ -44,12 +48,14 @@ fn refusal(store: &MemoryStore, place: Place, length: usize) -> Option<ErrorKind
     }
 }
 
-/// Why three bytes of a fragment from an index on aren't read, if they aren't; where they are, whether they are those.
-fn read<F: Fragment>(fragment: &F, from: usize, wanted: &[u8]) -> Result<bool, ErrorKind> {
+/// Whether three bytes of a fragment from 2 on are these, and three from 4 on are too many.
+fn is_read(fragment: &MemoryFragment, wanted: [u8; 3]) -> Result<bool, io::Error> {
     let mut bytes = [0; 3];
-    match fragment.read_at(from, &mut bytes) {
-        Ok(()) => Ok(bytes.as_slice() == wanted),
-        Err(error) => Err(error.kind()),
+    fragment.read_at(2, &mut bytes)?;
+    let is = bytes == wanted;
+    match fragment.read_at(4, &mut bytes) {
+        Ok(()) => Ok(false),
+        Err(error) => Ok(is && error.kind() == ErrorKind::UnexpectedEof),
     }
 }
 
@@ -57,42 +63,42 @@ fn read<F: Fragment>(fragment: &F, from: usize, wanted: &[u8]) -> Result<bool, E
 fn opened_fragment_is_read(rt: HostRuntime) -> Result<(), io::Error> {
     let mut store = MemoryStore::new(rt.alloc());
     store.put("a", Place::X0, b"abcdef")?;
+    let is_long = refusal(&store, Place::X0, 7) == Some(ErrorKind::UnexpectedEof);
+    assert_holds(&rt, is_long, "x0 is shorter");
+    let is_absent = refusal(&store, Place::X1, 6) == Some(ErrorKind::NotFound);
+    assert_holds(&rt, is_absent, "x1 isn't there");
     let fragment = store.open("a", Place::X0, 6)?;
-    assert_same(&rt, &read(&fragment, 2, b"cde"), &Ok(true));
-    assert_same(
-        &rt,
-        &read(&fragment, 4, b""),
-        &Err(ErrorKind::UnexpectedEof),
-    );
-    assert_same(
-        &rt,
-        &refusal(&store, Place::X0, 7),
-        &Some(ErrorKind::UnexpectedEof),
-    );
-    assert_same(
-        &rt,
-        &refusal(&store, Place::X1, 6),
-        &Some(ErrorKind::NotFound),
-    );
+    assert_holds(&rt, is_read(&fragment, *b"cde")?, "x0 is read");
     Ok(())
+}
+
+/// Makes a fragment of two parts, and gives it the name of x0, which has nothing else than these bytes until then.
+fn placed(
+    store: &mut MemoryStore,
+    parts: [&[u8]; 2],
+    before: Option<&[u8]>,
+) -> Result<Option<Placed>, io::Error> {
+    let mut fragment = store.create("a", Place::X0)?;
+    fragment.append(parts[0])?;
+    fragment.append(parts[1])?;
+    if !has(store, before, None) {
+        return Ok(None);
+    }
+    Ok(Some(store.place(fragment, "a", Place::X0)?))
 }
 
 #[test]
 fn new_fragment_gets_its_name(rt: HostRuntime) -> Result<(), io::Error> {
     let mut store = MemoryStore::new(rt.alloc());
-    let mut first = store.create("a", Place::X0)?;
-    first.append(b"ab")?;
-    first.append(b"c")?;
-    assert_has(&rt, &store, "a", Place::X0, None);
-    assert_same(&rt, &store.place(first, "a", Place::X0)?, &Placed::Placed);
-    assert_has(&rt, &store, "a", Place::X0, Some(b"abc"));
-    let second = store.create("a", Place::X0)?;
-    assert_same(&rt, &store.place(second, "a", Place::X0)?, &Placed::IsThere);
-    assert_has(&rt, &store, "a", Place::X0, Some(b"abc"));
+    let first = placed(&mut store, [b"ab", b"c"], None)?;
+    assert_holds(&rt, first == Some(Placed::Placed), "the first gets it");
+    let second = placed(&mut store, [b"", b""], Some(b"abc"))?;
+    assert_holds(&rt, second == Some(Placed::IsThere), "the second doesn't");
+    assert_holds(&rt, has(&store, Some(b"abc"), None), "x0 is the first");
     Ok(())
 }
 
-/// Replaces a stripe's x0 by a fragment without bytes.
+/// Replaces x0 by a fragment without bytes.
 fn replaced(store: &mut MemoryStore) -> Result<Placed, io::Error> {
     let fragment = store.create("a", Place::X0)?;
     store.replace(fragment, "a", Place::X0)
@@ -102,23 +108,20 @@ fn replaced(store: &mut MemoryStore) -> Result<Placed, io::Error> {
 fn replaced_fragment_is_kept_once(rt: HostRuntime) -> Result<(), io::Error> {
     let mut store = MemoryStore::new(rt.alloc());
     store.put("a", Place::X0, b"abc")?;
-    assert_same(&rt, &replaced(&mut store)?, &Placed::Placed);
-    assert_has(&rt, &store, "a", Place::X0, Some(b""));
-    assert_holds(
-        &rt,
-        store.kept("a", Place::X0) == Some(b"abc"),
-        "it is kept",
-    );
-    assert_same(&rt, &replaced(&mut store)?, &Placed::IsThere);
+    let first = replaced(&mut store)?;
+    let is_kept = first == Placed::Placed && has(&store, Some(b""), Some(b"abc"));
+    assert_holds(&rt, is_kept, "it is kept");
+    let second = replaced(&mut store)?;
+    assert_holds(&rt, second == Placed::IsThere, "the second isn't");
     Ok(())
 }
 
 #[test]
 fn discarded_fragment_has_no_name(rt: HostRuntime) -> Result<(), io::Error> {
     let mut store = MemoryStore::new(rt.alloc());
-    let fragment = store.create("a", Place::X1)?;
+    let fragment = store.create("a", Place::X0)?;
     store.discard(fragment)?;
     assert_holds(&rt, store.settle().is_ok(), "it is settled");
-    assert_has(&rt, &store, "a", Place::X1, None);
+    assert_holds(&rt, has(&store, None, None), "it has no name");
     Ok(())
 }

@@ -1,14 +1,12 @@
 //! Replies in whatever order they come.
-ghost use Rattle.std.specs.Prelude.{◌≡◌, IfOk, map, slice_index_or, true};
+ghost use Rattle.std.specs.Prelude.{◌≡◌, ◌≢◌, IfOk, map, slice_index_or};
 ghost use Rattle.lrc_code.specs.Requests.{Asked};
 ghost use Rattle.farm_orders.specs.Orders.{before_close, served};
 ghost use Rattle.farm_core.specs.Replies.{IsInPlace};
 
-use crate::farm::requests::{
-    ANSWERS_OF_ONE, Answer, GLOBAL, LOCAL, ONE, answer_of, assert_racks, racks_of,
-};
+use crate::farm::requests::{ANSWERS_OF_ONE, GLOBAL, LOCAL, ONE, are_answers, racks_of, shown};
 use farm_core::{CollectFault, Collector, FinishFault, Order, RackList, Racks, Reply, ReplyResult};
-use lrc_code::{Outcome, Request};
+use lrc_code::Request;
 use lrc_plan::solve;
 use std::alloc::{AllocError, Global};
 
@@ -55,6 +53,20 @@ fn accepts<'a>(collector: &mut Collector<'a>, reply: Reply<'a>) -> bool
     }
 }
 
+/// What a collector ends with: whether its answers are those of `ONE`; the rack and the number of a reply that is missing; or neither,
+/// where memory was refused.
+type Ended = Result<bool, Option<(usize, u64)>>;
+
+fn ended(collector: Collector<'_>) -> Ended
+    requires { IsInPlace collector }
+{
+    match collector.finish() {
+        Ok(answers) => Ok(are_answers(answers.as_slice(), ANSWERS_OF_ONE)),
+        Err(FinishFault::Missing { rack, number }) => Err(Some((rack, number))),
+        Err(FinishFault::OutOfMemory) => Err(None),
+    }
+}
+
 /// What a collector ends with that gets the replies to rack 0's requests of these numbers, in this order. Those that are
 /// starved say that memory was refused.
 pub(crate) fn gathered(
@@ -62,11 +74,11 @@ pub(crate) fn gathered(
     racks: &Racks,
     numbers: &[usize],
     starved: &[usize],
-) -> Result<Result<Vec<Vec<Outcome>>, FinishFault>, AllocError> {
+) -> Result<Ended, AllocError> {
     let mut collector = Collector::new(alloc, racks)?;
     let lists = racks.lists();
     let Some(list) = lists.first() else {
-        return Ok(collector.finish());
+        return Ok(ended(collector));
     };
     let requests = requests_of(alloc, list)?;
     for number in numbers {
@@ -76,148 +88,107 @@ pub(crate) fn gathered(
         let reply = reply_of(alloc, *number, request, starved.contains(number))?;
         let _ = accepts(&mut collector, reply);
     }
-    Ok(collector.finish())
+    Ok(ended(collector))
 }
 
-const SIX_ORDERS: &[&[usize]] = &[
-    &[0, 1, 2],
-    &[0, 2, 1],
-    &[1, 0, 2],
-    &[1, 2, 0],
-    &[2, 0, 1],
-    &[2, 1, 0],
+/// Replies in the order in which they come, those of them that are starved, and what the collector ends with: the answers in whatever order
+/// they come, and none where one is starved or missing, of which it names the first that is missing.
+const ENDS: &[(&[usize], &[usize], Ended)] = &[
+    (&[0, 1, 2], &[], Ok(true)),
+    (&[0, 2, 1], &[], Ok(true)),
+    (&[1, 0, 2], &[], Ok(true)),
+    (&[1, 2, 0], &[], Ok(true)),
+    (&[2, 0, 1], &[], Ok(true)),
+    (&[2, 1, 0], &[], Ok(true)),
+    (&[2, 0, 1], &[1], Err(None)),
+    (&[2, 1], &[1], Err(Some((0, 0)))),
+    (&[], &[], Err(Some((0, 0)))),
+    (&[0, 1], &[], Err(Some((0, 2)))),
 ];
 
 #[test]
-fn answers_are_in_order_however_replies_come(rt: HostRuntime) -> Result<(), AllocError> {
-    let alloc = rt.alloc();
-    let racks = racks_of(&rt, alloc, ONE)?;
-    for order in SIX_ORDERS {
-        match gathered(alloc, &racks, order, &[])? {
-            Ok(answers) => assert_racks(&rt, answers.as_slice(), ANSWERS_OF_ONE),
-            Err(_) => panic!(rt; "no answers"),
-        }
+fn answers_are_in_order_or_a_reply_is_missing(rt: HostRuntime) -> Result<(), AllocError> {
+    let racks = racks_of(&rt, rt.alloc(), ONE)?;
+    for (numbers, starved, wanted) in ENDS {
+        let ended = gathered(rt.alloc(), &racks, numbers, starved)?;
+        assert_eq!(rt; ended, *wanted, "of the replies {numbers:?}");
     }
     Ok(())
 }
 
-/// Replies in their order, those of them that are starved, and the number of the first that is missing.
-const MISSING: &[(&[usize], &[usize], u64)] = &[
-    (&[2, 1], &[1], 0),
-    (&[], &[], 0),
-    (&[0, 1], &[], 2),
-];
+/// How `taken` gives a reply that is accepted, and one that is refused as a stranger and handed back.
+const ACCEPTED: u16 = 300;
 
-#[test]
-fn a_starved_or_missing_reply_leaves_no_answers(rt: HostRuntime) -> Result<(), AllocError> {
-    let alloc = rt.alloc();
-    let racks = racks_of(&rt, alloc, ONE)?;
-    let starved = gathered(alloc, &racks, &[2, 0, 1], &[1])?;
-    assert!(rt;
-        matches!(starved, Err(FinishFault::OutOfMemory)),
-        "{starved:?}"
-    );
-    for (numbers, starved, first) in MISSING {
-        match gathered(alloc, &racks, numbers, starved)? {
-            Err(FinishFault::Missing { rack, number }) => {
-                assert_eq!(rt; (rack, number), (0, *first), "of the replies {numbers:?}")
-            }
-            _ => panic!(rt; "no reply is missing"),
-        }
-    }
-    Ok(())
-}
+const STRANGER: u16 = 301;
 
-/// Whether a reply is refused as a stranger, and handed back.
-fn is_stranger<'a>(collector: &mut Collector<'a>, reply: Reply<'a>) -> bool
-    ensures { result ≡ true → collector.new ≡ collector.old }
+/// How a collector takes a reply. Of one that is refused as a second one it is the outcome that is handed back, as `shown` gives it.
+fn taken<'a>(collector: &mut Collector<'a>, reply: Reply<'a>) -> u16
+    ensures { result ≢ 300 → collector.new ≡ collector.old }
 {
     let (rack, number) = (reply.rack, reply.number);
     match collector.accept(reply) {
-        Err(CollectFault::Stranger { reply }) => reply.rack == rack && reply.number == number,
-        _ => false,
-    }
-}
-
-/// Whether a reply is refused as a second one, and handed back with its outcome, a fragment of this byte.
-fn is_second<'a>(collector: &mut Collector<'a>, reply: Reply<'a>, byte: u8) -> bool
-    ensures { result ≡ true → collector.new ≡ collector.old }
-{
-    match collector.accept(reply) {
+        Ok(()) => ACCEPTED,
+        Err(CollectFault::Stranger { reply }) => {
+            if reply.rack == rack && reply.number == number {
+                STRANGER
+            } else {
+                302
+            }
+        }
         Err(CollectFault::Double { reply }) => match reply.into_outcome() {
-            Some(outcome) => answer_of(&outcome) == Answer::Byte(byte),
-            None => false,
+            Some(outcome) => shown(&outcome),
+            None => 303,
         },
-        _ => false,
     }
 }
 
-#[test]
-fn strangers_and_second_replies_are_handed_back(rt: HostRuntime) -> Result<(), AllocError> {
-    let alloc = rt.alloc();
-    let racks = racks_of(&rt, alloc, &[&[LOCAL]])?;
-    let mut collector = Collector::new(alloc, &racks)?;
-    let Some(list) = racks.lists().first() else {
-        panic!(rt; "no list");
+/// Whether a collector accepts a reply to request 1 and a starved one to request 2; how it takes one of another rack, one of a number that
+/// is too great, and second ones to requests 1 and 2; and what it ends with.
+type Taken = ([bool; 2], [u16; 4], Ended);
+
+/// How a collector takes these replies to a rack of three requests; nothing where a refused one is accepted.
+fn takes(alloc: Global, racks: &Racks) -> Result<Option<Taken>, AllocError> {
+    let lists = racks.lists();
+    let Some(list) = lists.first() else {
+        return Ok(None);
     };
     let requests = requests_of(alloc, list)?;
-    let Some(request) = requests.first() else {
-        panic!(rt; "no request");
+    let (Some(request), Some(last)) = (requests.get(1), requests.get(2)) else {
+        return Ok(None);
     };
+    let mut collector = Collector::new(alloc, racks)?;
+    let accepted = [
+        accepts(&mut collector, reply_of(alloc, 1, request, false)?),
+        accepts(&mut collector, Reply::starved(0, 2, last)),
+    ];
     let elsewhere = Reply {
         rack: 1,
         number: 0,
         request,
         result: ReplyResult::Starved,
     };
-    assert!(rt;
-        is_stranger(&mut collector, elsewhere),
-        "a reply of another rack"
-    );
-    assert!(rt;
-        is_stranger(&mut collector, Reply::starved(0, 1, request)),
-        "a number that is too great"
-    );
-    assert!(rt;
-        collector.accept(Reply::starved(0, 0, request)).is_ok(),
-        "the first reply"
-    );
-    let outcome = solve(alloc, alloc, request)?;
-    assert!(rt;
-        is_second(&mut collector, Reply::done(0, 0, request, outcome), 0x01),
-        "a second reply"
-    );
-    Ok(())
+    let elsewhere = taken(&mut collector, elsewhere);
+    let beyond = taken(&mut collector, Reply::starved(0, 3, request));
+    let second = taken(&mut collector, reply_of(alloc, 1, request, false)?);
+    let other = taken(&mut collector, reply_of(alloc, 2, last, false)?);
+    if elsewhere == ACCEPTED || beyond == ACCEPTED || second == ACCEPTED || other == ACCEPTED {
+        return Ok(None);
+    }
+    let refused = [elsewhere, beyond, second, other];
+    Ok(Some((accepted, refused, ended(collector))))
 }
 
 /// Refused replies leave a collector as it was: it still names the reply that is missing.
 #[test]
-fn refused_replies_leave_the_collector_as_it_was(rt: HostRuntime) -> Result<(), AllocError> {
-    let alloc = rt.alloc();
-    let racks = racks_of(&rt, alloc, &[&[LOCAL, GLOBAL]])?;
-    let mut collector = Collector::new(alloc, &racks)?;
-    let Some(list) = racks.lists().first() else {
-        panic!(rt; "no list");
-    };
-    let requests = requests_of(alloc, list)?;
-    let Some(request) = requests.get(1) else {
-        panic!(rt; "no request");
-    };
-    assert!(rt;
-        accepts(&mut collector, reply_of(alloc, 1, request, false)?),
-        "the first reply"
+fn strangers_and_second_replies_are_handed_back(rt: HostRuntime) -> Result<(), AllocError> {
+    let racks = racks_of(&rt, rt.alloc(), &[&[LOCAL, GLOBAL, LOCAL]])?;
+    assert_eq!(rt;
+        takes(rt.alloc(), &racks)?,
+        Some((
+            [true, true],
+            [STRANGER, STRANGER, 0x6e, 0x01],
+            Err(Some((0, 0)))
+        ))
     );
-    assert!(rt;
-        is_second(&mut collector, reply_of(alloc, 1, request, false)?, 0x6e),
-        "a second reply"
-    );
-    assert!(rt;
-        is_stranger(&mut collector, reply_of(alloc, 2, request, true)?),
-        "a number that is too great"
-    );
-    match collector.finish() {
-        Err(FinishFault::Missing { rack, number }) => assert_eq!(rt; (rack, number), (0, 0)),
-        _ => panic!(rt; "no reply is missing"),
-    }
     Ok(())
 }

@@ -1,5 +1,7 @@
 //! Limits, each by its last accepted value and its first refused one.
-use farm_core::{Feeds, FeedsFault, Order, RackList, Racks, Settings, SettingsFault};
+use farm_core::{
+    Feeds, FeedsFault, Order, RackList, Racks, Settings, SettingsFault, TooManyOrders, TooManyRacks,
+};
 use std::alloc::{AllocError, Global};
 use std::process::Abort;
 
@@ -22,32 +24,45 @@ fn empty_lists(rt: &impl Abort, alloc: Global, count: usize) -> Result<Vec<RackL
     Ok(lists)
 }
 
+/// Of a list of so many orders their number, how many it serves and how many orders come back; or how many are handed back.
+type ListSizes = Result<(usize, usize, usize), usize>;
+
+fn list_sizes(alloc: Global, count: usize) -> Result<ListSizes, AllocError> {
+    match RackList::new(closes(alloc, count)?) {
+        Ok(list) => {
+            let sizes = (list.orders().len(), list.served());
+            Ok(Ok((sizes.0, sizes.1, list.into_orders().len())))
+        }
+        Err(TooManyOrders { orders }) => Ok(Err(orders.len())),
+    }
+}
+
 #[test]
 fn a_list_has_at_most_4096_orders(rt: HostRuntime) -> Result<(), AllocError> {
-    let alloc = rt.alloc();
-    let Ok(list) = RackList::new(closes(alloc, 4096)?) else {
-        panic!(rt; "4096 orders were refused");
-    };
-    assert_eq!(rt; (list.orders().len(), list.served()), (4096, 0));
-    assert_eq!(rt; list.into_orders().len(), 4096);
-    let Err(fault) = RackList::new(closes(alloc, 4097)?) else {
-        panic!(rt; "4097 orders were accepted");
-    };
-    assert_eq!(rt; fault.orders.len(), 4097);
+    let sizes = [list_sizes(rt.alloc(), 4096)?, list_sizes(rt.alloc(), 4097)?];
+    assert_eq!(rt; sizes, [Ok((4096, 0, 4096)), Err(4097)]);
     Ok(())
+}
+
+/// How many racks a run has, or how many are handed back.
+fn rack_count(
+    rt: &impl Abort,
+    alloc: Global,
+    count: usize,
+) -> Result<Result<usize, usize>, AllocError> {
+    match Racks::new(empty_lists(rt, alloc, count)?) {
+        Ok(racks) => Ok(Ok(racks.lists().len())),
+        Err(TooManyRacks { lists }) => Ok(Err(lists.len())),
+    }
 }
 
 #[test]
 fn a_run_has_at_most_16_racks(rt: HostRuntime) -> Result<(), AllocError> {
-    let alloc = rt.alloc();
-    let Ok(racks) = Racks::new(empty_lists(&rt, alloc, 16)?) else {
-        panic!(rt; "16 racks were refused");
-    };
-    assert_eq!(rt; racks.lists().len(), 16);
-    let Err(fault) = Racks::new(empty_lists(&rt, alloc, 17)?) else {
-        panic!(rt; "17 racks were accepted");
-    };
-    assert_eq!(rt; fault.lists.len(), 17);
+    let counts = [
+        rack_count(&rt, rt.alloc(), 16)?,
+        rack_count(&rt, rt.alloc(), 17)?,
+    ];
+    assert_eq!(rt; counts, [Ok(16), Err(17)]);
     Ok(())
 }
 
@@ -75,70 +90,87 @@ fn sizes(racks: &[Vec<RackList>]) -> (usize, usize) {
     }
 }
 
-/// Numbers of racks, of feeds of each, and of feeds of the last.
-const ACCEPTED: &[(usize, usize, usize)] = &[
-    (0, 0, 0),
-    (1, 1, 1),
-    (1, 4, 4),
-    (16, 1, 4),
-    (16, 4, 4),
-];
+/// A number of racks, and of feeds of the last of them.
+type Sizes = (usize, usize);
 
-/// Numbers of racks, and of feeds of the last.
-const REFUSED: &[(usize, usize)] = &[(1, 0), (2, 0), (16, 0), (1, 5), (2, 5), (16, 5)];
+/// The sizes of a run's racks, as they are seen and as they come back; or whether racks are too many, and not their feeds bad, and the
+/// sizes of those that are handed back.
+type FeedSizes = Result<[Sizes; 2], (bool, Sizes)>;
 
-#[test]
-fn racks_have_one_to_four_feeds(rt: HostRuntime) -> Result<(), AllocError> {
-    let alloc = rt.alloc();
-    for (racks, each, last) in ACCEPTED {
-        match Feeds::new(feeds(&rt, alloc, *racks, *each, *last)?) {
-            Ok(accepted) => {
-                assert_eq!(rt; sizes(accepted.racks()), (*racks, *last));
-                assert_eq!(rt; sizes(accepted.into_racks().as_slice()), (*racks, *last));
-            }
-            Err(_) => panic!(rt; "{racks} racks of {each} feeds, the last of {last}, were refused"),
+fn feed_sizes(
+    rt: &impl Abort,
+    alloc: Global,
+    racks: usize,
+    each: usize,
+    last: usize,
+) -> Result<FeedSizes, AllocError> {
+    match Feeds::new(feeds(rt, alloc, racks, each, last)?) {
+        Ok(accepted) => {
+            let seen = sizes(accepted.racks());
+            Ok(Ok([seen, sizes(accepted.into_racks().as_slice())]))
         }
+        Err(FeedsFault::TooManyRacks { racks }) => Ok(Err((true, sizes(racks.as_slice())))),
+        Err(FeedsFault::BadFeeds { racks }) => Ok(Err((false, sizes(racks.as_slice())))),
     }
-    for (racks, last) in REFUSED {
-        match Feeds::new(feeds(&rt, alloc, *racks, 4, *last)?) {
-            Err(FeedsFault::BadFeeds { racks: back }) => {
-                assert_eq!(rt; sizes(back.as_slice()), (*racks, *last))
-            }
-            _ => panic!(rt; "{racks} racks, the last of {last} feeds, aren't refused as such"),
-        }
-    }
-    Ok(())
 }
+
+/// Numbers of racks, of feeds of each, and of feeds of the last, and what refuses them: that racks are too many, or not.
+const FEEDS: &[(usize, usize, usize, Option<bool>)] = &[
+    (0, 0, 0, None),
+    (1, 1, 1, None),
+    (1, 4, 4, None),
+    (16, 1, 4, None),
+    (16, 4, 4, None),
+    (1, 4, 0, Some(false)),
+    (2, 4, 0, Some(false)),
+    (16, 4, 0, Some(false)),
+    (1, 4, 5, Some(false)),
+    (2, 4, 5, Some(false)),
+    (16, 4, 5, Some(false)),
+    (17, 4, 0, Some(true)),
+    (17, 4, 1, Some(true)),
+    (17, 4, 4, Some(true)),
+    (17, 4, 5, Some(true)),
+];
 
 /// The number of racks is tested before that of their feeds.
 #[test]
-fn racks_are_counted_before_their_feeds(rt: HostRuntime) -> Result<(), AllocError> {
-    let alloc = rt.alloc();
-    for last in [0, 1, 4, 5] {
-        match Feeds::new(feeds(&rt, alloc, 17, 4, last)?) {
-            Err(FeedsFault::TooManyRacks { racks }) => {
-                assert_eq!(rt; sizes(racks.as_slice()), (17, last))
-            }
-            _ => panic!(rt; "17 racks aren't refused as such"),
-        }
+fn racks_have_one_to_four_feeds(rt: HostRuntime) -> Result<(), AllocError> {
+    for (racks, each, last, refused) in FEEDS {
+        let sizes = (*racks, *last);
+        let wanted = match refused {
+            None => Ok([sizes, sizes]),
+            Some(too_many) => Err((*too_many, sizes)),
+        };
+        let found = feed_sizes(&rt, rt.alloc(), *racks, *each, *last)?;
+        assert_eq!(rt; found, wanted, "{racks} racks, of {each} feeds each");
     }
     Ok(())
 }
 
+/// Numbers of workers and of jobs in the queue, and what refuses them.
+const SETTINGS: &[(usize, usize, Option<SettingsFault>)] = &[
+    (16, 1024, None),
+    (1, 1, None),
+    (0, 0, Some(SettingsFault::BadWorkers)),
+    (17, 1, Some(SettingsFault::BadWorkers)),
+    (1, 0, Some(SettingsFault::BadQueue)),
+    (1, 1025, Some(SettingsFault::BadQueue)),
+];
+
 #[test]
 fn settings_are_refused_beyond_their_limits(rt: HostRuntime) {
-    let Ok(settings) = Settings::new(16, 1024) else {
-        panic!(rt; "the greatest settings were refused");
-    };
-    assert_eq!(rt; (settings.workers(), settings.queue()), (16, 1024));
-    assert!(rt;
-        Settings::new(1, 1).is_ok(),
-        "the least settings were refused"
-    );
-    assert_eq!(rt; Settings::new(0, 0).err(), Some(SettingsFault::BadWorkers));
-    assert_eq!(rt; Settings::new(17, 1).err(), Some(SettingsFault::BadWorkers));
-    assert_eq!(rt; Settings::new(1, 0).err(), Some(SettingsFault::BadQueue));
-    assert_eq!(rt; Settings::new(1, 1025).err(), Some(SettingsFault::BadQueue));
+    for (workers, queue, refused) in SETTINGS {
+        let found = match Settings::new(*workers, *queue) {
+            Ok(settings) => Ok((settings.workers(), settings.queue())),
+            Err(fault) => Err(fault),
+        };
+        let wanted = match refused {
+            None => Ok((*workers, *queue)),
+            Some(fault) => Err(*fault),
+        };
+        assert_eq!(rt; found, wanted);
+    }
 }
 
 /// What the faults of settings say.
@@ -153,8 +185,11 @@ const TEXTS: &[(SettingsFault, &str)] = &[
 #[test]
 fn faults_of_settings_say_their_limits(rt: HostRuntime) -> Result<(), AllocError> {
     for (fault, text) in TEXTS {
-        let said = format!(in rt.alloc(); "{fault}")?;
-        assert_eq!(rt; said.as_str(), *text);
+        let same = {
+            let said = format!(in rt.alloc(); "{fault}")?;
+            said.as_str() == *text
+        };
+        assert!(rt; same, "not {text}");
     }
     Ok(())
 }

@@ -46,16 +46,10 @@ pub(crate) const GLOBAL: Entry = Entry::Lost(
 /// A rack with each of these three.
 pub(crate) const ONE: &[&[Entry]] = &[&[LOCAL, SEVERAL, GLOBAL]];
 
-/// Its answers, as `assert_racks` takes them.
-pub(crate) const ANSWERS_OF_ONE: &[&[Option<u8>]] = &[&[Some(0x01), None, Some(0x6e)]];
+/// Its answers, each as `shown` gives it.
+pub(crate) const ANSWERS_OF_ONE: &[&[u16]] = &[&[0x01, STRIPES, 0x6e]];
 
-/// A request, which is accepted.
-fn request(
-    rt: &impl Abort,
-    alloc: Global,
-    target: Place,
-    survivors: &[(Place, u8)],
-) -> Result<Request, AllocError> {
+fn fragments_of(alloc: Global, survivors: &[(Place, u8)]) -> Result<Vec<Fragment>, AllocError> {
     let mut fragments = Vec::new(alloc);
     for (place, byte) in survivors {
         fragments.push(Fragment {
@@ -63,19 +57,18 @@ fn request(
             bytes: vec![in alloc; *byte]?,
         })?;
     }
-    match Request::new(String::from_str(alloc, "a")?, target, 1, fragments) {
-        Ok(request) => Ok(request),
-        Err(_) => panic!(rt; "a request was refused"),
-    }
+    Ok(fragments)
 }
 
+/// An order with a request, which is accepted, or a close.
 fn order(rt: &impl Abort, alloc: Global, entry: &Entry) -> Result<Order, AllocError> {
-    match entry {
-        Entry::Lost(target, survivors) => {
-            let request = request(rt, alloc, *target, survivors)?;
-            Ok(Order::Rebuild(request))
-        }
-        Entry::Close => Ok(Order::Close),
+    let Entry::Lost(target, survivors) = entry else {
+        return Ok(Order::Close);
+    };
+    let fragments = fragments_of(alloc, survivors)?;
+    match Request::new(String::from_str(alloc, "a")?, *target, 1, fragments) {
+        Ok(request) => Ok(Order::Rebuild(request)),
+        Err(_) => panic!(rt; "a request was refused"),
     }
 }
 
@@ -95,55 +88,44 @@ pub(crate) fn list_of(
     }
 }
 
-/// An answer, as it is compared and shown.
-#[derive(Clone, Copy, PartialEq, Eq, Debug)]
-pub(crate) enum Answer {
-    /// A fragment of this one byte.
-    Byte(u8),
-    /// A fragment that hasn't one byte.
-    Long,
-    Contradiction,
-    Several,
-}
+/// How `shown` gives an answer that says that two stripes or more fit.
+pub(crate) const STRIPES: u16 = 256;
 
-/// The answer, as it is compared and shown.
-pub(crate) fn answer_of(outcome: &Outcome) -> Answer {
+/// The answer, as it is compared and shown: the one byte of a fragment, or a number that is no byte.
+pub(crate) fn shown(outcome: &Outcome) -> u16 {
     match outcome {
         Outcome::Rebuilt(bytes) => match bytes.as_slice() {
-            [byte] => Answer::Byte(*byte),
-            _ => Answer::Long,
+            [byte] => u16::from(*byte),
+            _ => 258,
         },
-        Outcome::Contradiction => Answer::Contradiction,
-        Outcome::Several => Answer::Several,
+        Outcome::Contradiction => 257,
+        Outcome::Several => STRIPES,
     }
 }
 
-/// The answer that is wanted: a fragment of this one byte, or where there is none, that two stripes differ.
-pub(crate) fn wanted_of(byte: Option<u8>) -> Answer {
-    match byte {
-        Some(byte) => Answer::Byte(byte),
-        None => Answer::Several,
+fn are_same(outcomes: &[Outcome], wanted: &[u16]) -> bool {
+    if outcomes.len() != wanted.len() {
+        return false;
     }
+    for (outcome, wanted) in outcomes.iter().zip(wanted) {
+        if shown(outcome) != *wanted {
+            return false;
+        }
+    }
+    true
 }
 
-/// Asserts that these are the answers of the rack of this number.
-fn assert_answers(rt: &impl Abort, rack: usize, outcomes: &[Outcome], wanted: &[Option<u8>]) {
-    assert_eq!(rt; outcomes.len(), wanted.len(), "answers of rack {rack}");
-    for (number, (outcome, byte)) in outcomes.iter().zip(wanted).enumerate() {
-        assert_eq!(rt;
-            answer_of(outcome),
-            wanted_of(*byte),
-            "answer {number} of rack {rack}"
-        );
+/// Whether these are the answers of each rack, each as `shown` gives it.
+pub(crate) fn are_answers(racks: &[Vec<Outcome>], wanted: &[&[u16]]) -> bool {
+    if racks.len() != wanted.len() {
+        return false;
     }
-}
-
-/// Asserts that these are the answers of each rack, each as `wanted_of` takes it.
-pub(crate) fn assert_racks(rt: &impl Abort, racks: &[Vec<Outcome>], wanted: &[&[Option<u8>]]) {
-    assert_eq!(rt; racks.len(), wanted.len(), "racks");
-    for (rack, (outcomes, bytes)) in racks.iter().zip(wanted).enumerate() {
-        assert_answers(rt, rack, outcomes.as_slice(), bytes);
+    for (outcomes, wanted) in racks.iter().zip(wanted) {
+        if !are_same(outcomes.as_slice(), wanted) {
+            return false;
+        }
     }
+    true
 }
 
 /// Lists of these entries: of several racks, or of one rack's feeds.

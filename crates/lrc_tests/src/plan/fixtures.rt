@@ -3,6 +3,7 @@ ghost use Rattle.std.specs.Prelude.{◌≡◌, IfOk};
 ghost use Rattle.lrc_plan.specs.Form.{Leaf, Sum};
 ghost use Rattle.lrc_plan.specs.Tree.{form_of};
 
+use super::wide_cases::wide_cases;
 use lrc_code::{Code, Fragment, Place, PlaceSet, Request};
 use lrc_field::Gf;
 use lrc_plan::Tree;
@@ -16,14 +17,16 @@ pub enum Answer {
     Several,
 }
 
-/// A request by its code, target, length and survivors, with its answer.
+/// A request by its code, target, length and survivors, with its answer. The bytes of the survivors follow one another: tables with a slice
+/// for each take longer to prove.
 #[derive(Clone, Copy)]
 pub struct Case {
     pub name: &'static str,
     pub code: Code,
     pub target: Place,
     pub length: u32,
-    pub survivors: &'static [(Place, &'static [u8])],
+    pub places: &'static [Place],
+    pub bytes: &'static [u8],
     pub answer: Answer,
 }
 
@@ -39,11 +42,8 @@ static CASES: [Case; 17] = [
         code: Code::Narrow,
         target: Place::X0,
         length: 1,
-        survivors: &[
-            (Place::X1, b"\x02"),
-            (Place::X2, b"\x03"),
-            (Place::Px, b"\x00"),
-        ],
+        places: &[Place::X1, Place::X2, Place::Px],
+        bytes: b"\x02\x03\x00",
         answer: Answer::Rebuilt(b"\x01"),
     },
     Case {
@@ -51,14 +51,15 @@ static CASES: [Case; 17] = [
         code: Code::Narrow,
         target: Place::X0,
         length: 1,
-        survivors: &[
-            (Place::X1, b"\x02"),
-            (Place::X2, b"\x03"),
-            (Place::Px, b"\x00"),
-            (Place::Y0, b"\x05"),
-            (Place::Y1, b"\x05"),
-            (Place::Y2, b"\x06"),
+        places: &[
+            Place::X1,
+            Place::X2,
+            Place::Px,
+            Place::Y0,
+            Place::Y1,
+            Place::Y2,
         ],
+        bytes: b"\x02\x03\x00\x05\x05\x06",
         answer: Answer::Rebuilt(b"\x01"),
     },
     Case {
@@ -66,15 +67,16 @@ static CASES: [Case; 17] = [
         code: Code::Narrow,
         target: Place::X0,
         length: 1,
-        survivors: &[
-            (Place::X1, b"\x02"),
-            (Place::X2, b"\x03"),
-            (Place::Px, b"\x00"),
-            (Place::Y0, b"\x05"),
-            (Place::Y1, b"\x05"),
-            (Place::Y2, b"\x06"),
-            (Place::Py, b"\x07"),
+        places: &[
+            Place::X1,
+            Place::X2,
+            Place::Px,
+            Place::Y0,
+            Place::Y1,
+            Place::Y2,
+            Place::Py,
         ],
+        bytes: b"\x02\x03\x00\x05\x05\x06\x07",
         answer: Answer::Contradiction,
     },
     Case {
@@ -82,16 +84,17 @@ static CASES: [Case; 17] = [
         code: Code::Narrow,
         target: Place::Y0,
         length: 1,
-        survivors: &[
-            (Place::X0, b"\x01"),
-            (Place::X1, b"\x02"),
-            (Place::X2, b"\x03"),
-            (Place::Y1, b"\x05"),
-            (Place::Y2, b"\x06"),
-            (Place::Px, b"\x00"),
-            (Place::P0, b"\x04"),
-            (Place::P1, b"\x6e"),
+        places: &[
+            Place::X0,
+            Place::X1,
+            Place::X2,
+            Place::Y1,
+            Place::Y2,
+            Place::Px,
+            Place::P0,
+            Place::P1,
         ],
+        bytes: b"\x01\x02\x03\x05\x06\x00\x04\x6e",
         answer: Answer::Rebuilt(b"\x04"),
     },
     Case {
@@ -99,14 +102,15 @@ static CASES: [Case; 17] = [
         code: Code::Narrow,
         target: Place::X0,
         length: 1,
-        survivors: &[
-            (Place::X2, b"\x03"),
-            (Place::Y2, b"\x06"),
-            (Place::Px, b"\x00"),
-            (Place::Py, b"\x07"),
-            (Place::P0, b"\x04"),
-            (Place::P1, b"\x6e"),
+        places: &[
+            Place::X2,
+            Place::Y2,
+            Place::Px,
+            Place::Py,
+            Place::P0,
+            Place::P1,
         ],
+        bytes: b"\x03\x06\x00\x07\x04\x6e",
         answer: Answer::Rebuilt(b"\x01"),
     },
     Case {
@@ -114,14 +118,15 @@ static CASES: [Case; 17] = [
         code: Code::Narrow,
         target: Place::P1,
         length: 1,
-        survivors: &[
-            (Place::X0, b"\x01"),
-            (Place::X1, b"\x02"),
-            (Place::X2, b"\x03"),
-            (Place::Y0, b"\x04"),
-            (Place::Y1, b"\x05"),
-            (Place::Y2, b"\x06"),
+        places: &[
+            Place::X0,
+            Place::X1,
+            Place::X2,
+            Place::Y0,
+            Place::Y1,
+            Place::Y2,
         ],
+        bytes: b"\x01\x02\x03\x04\x05\x06",
         answer: Answer::Rebuilt(b"\x6e"),
     },
     Case {
@@ -129,14 +134,15 @@ static CASES: [Case; 17] = [
         code: Code::Narrow,
         target: Place::P0,
         length: 1,
-        survivors: &[
-            (Place::X0, b"\x80"),
-            (Place::X1, b"\x00"),
-            (Place::X2, b"\x00"),
-            (Place::Y0, b"\x00"),
-            (Place::Y1, b"\x00"),
-            (Place::Y2, b"\x00"),
+        places: &[
+            Place::X0,
+            Place::X1,
+            Place::X2,
+            Place::Y0,
+            Place::Y1,
+            Place::Y2,
         ],
+        bytes: b"\x80\x00\x00\x00\x00\x00",
         answer: Answer::Rebuilt(b"\x3a"),
     },
     Case {
@@ -144,14 +150,15 @@ static CASES: [Case; 17] = [
         code: Code::Narrow,
         target: Place::P1,
         length: 1,
-        survivors: &[
-            (Place::X0, b"\x80"),
-            (Place::X1, b"\x00"),
-            (Place::X2, b"\x00"),
-            (Place::Y0, b"\x00"),
-            (Place::Y1, b"\x00"),
-            (Place::Y2, b"\x00"),
+        places: &[
+            Place::X0,
+            Place::X1,
+            Place::X2,
+            Place::Y0,
+            Place::Y1,
+            Place::Y2,
         ],
+        bytes: b"\x80\x00\x00\x00\x00\x00",
         answer: Answer::Rebuilt(b"\xe8"),
     },
     Case {
@@ -159,17 +166,18 @@ static CASES: [Case; 17] = [
         code: Code::Narrow,
         target: Place::X0,
         length: 1,
-        survivors: &[
-            (Place::X1, b"\x02"),
-            (Place::X2, b"\x03"),
-            (Place::Y0, b"\x04"),
-            (Place::Y1, b"\x05"),
-            (Place::Y2, b"\x06"),
-            (Place::Px, b"\x01"),
-            (Place::Py, b"\x07"),
-            (Place::P0, b"\x04"),
-            (Place::P1, b"\x6e"),
+        places: &[
+            Place::X1,
+            Place::X2,
+            Place::Y0,
+            Place::Y1,
+            Place::Y2,
+            Place::Px,
+            Place::Py,
+            Place::P0,
+            Place::P1,
         ],
+        bytes: b"\x02\x03\x04\x05\x06\x01\x07\x04\x6e",
         answer: Answer::Contradiction,
     },
     Case {
@@ -177,11 +185,8 @@ static CASES: [Case; 17] = [
         code: Code::Narrow,
         target: Place::X0,
         length: 1,
-        survivors: &[
-            (Place::X1, b"\x02"),
-            (Place::X2, b"\x03"),
-            (Place::Px, b"\x01"),
-        ],
+        places: &[Place::X1, Place::X2, Place::Px],
+        bytes: b"\x02\x03\x01",
         answer: Answer::Rebuilt(b"\x00"),
     },
     Case {
@@ -189,12 +194,8 @@ static CASES: [Case; 17] = [
         code: Code::Narrow,
         target: Place::X0,
         length: 1,
-        survivors: &[
-            (Place::Y0, b"\x04"),
-            (Place::Y1, b"\x05"),
-            (Place::Y2, b"\x06"),
-            (Place::Py, b"\x08"),
-        ],
+        places: &[Place::Y0, Place::Y1, Place::Y2, Place::Py],
+        bytes: b"\x04\x05\x06\x08",
         answer: Answer::Contradiction,
     },
     Case {
@@ -202,14 +203,15 @@ static CASES: [Case; 17] = [
         code: Code::Narrow,
         target: Place::Y0,
         length: 1,
-        survivors: &[
-            (Place::X0, b"\x01"),
-            (Place::X1, b"\x02"),
-            (Place::X2, b"\x03"),
-            (Place::Px, b"\x00"),
-            (Place::P0, b"\x04"),
-            (Place::P1, b"\x6e"),
+        places: &[
+            Place::X0,
+            Place::X1,
+            Place::X2,
+            Place::Px,
+            Place::P0,
+            Place::P1,
         ],
+        bytes: b"\x01\x02\x03\x00\x04\x6e",
         answer: Answer::Several,
     },
     Case {
@@ -217,13 +219,8 @@ static CASES: [Case; 17] = [
         code: Code::Narrow,
         target: Place::X0,
         length: 1,
-        survivors: &[
-            (Place::X1, b"\x02"),
-            (Place::X2, b"\x03"),
-            (Place::Px, b"\x00"),
-            (Place::P0, b"\x04"),
-            (Place::P1, b"\x6e"),
-        ],
+        places: &[Place::X1, Place::X2, Place::Px, Place::P0, Place::P1],
+        bytes: b"\x02\x03\x00\x04\x6e",
         answer: Answer::Rebuilt(b"\x01"),
     },
     Case {
@@ -231,7 +228,8 @@ static CASES: [Case; 17] = [
         code: Code::Narrow,
         target: Place::X0,
         length: 1,
-        survivors: &[],
+        places: &[],
+        bytes: b"",
         answer: Answer::Several,
     },
     Case {
@@ -239,14 +237,15 @@ static CASES: [Case; 17] = [
         code: Code::Narrow,
         target: Place::X0,
         length: 3,
-        survivors: &[
-            (Place::X2, b"\x00\x00\x00"),
-            (Place::Y0, b"\x00\x00\x00"),
-            (Place::Y1, b"\x00\x00\x00"),
-            (Place::Y2, b"\x00\x00\x00"),
-            (Place::P0, b"\x99\x95\x91"),
-            (Place::P1, b"\x5e\x6e\x7e"),
+        places: &[
+            Place::X2,
+            Place::Y0,
+            Place::Y1,
+            Place::Y2,
+            Place::P0,
+            Place::P1,
         ],
+        bytes: b"\x00\x00\x00\x00\x00\x00\x00\x00\x00\x00\x00\x00\x99\x95\x91\x5e\x6e\x7e",
         answer: Answer::Rebuilt(b"abc"),
     },
     Case {
@@ -254,12 +253,8 @@ static CASES: [Case; 17] = [
         code: Code::Narrow,
         target: Place::X0,
         length: 2,
-        survivors: &[
-            (Place::Y0, b"\x04\x04"),
-            (Place::Y1, b"\x05\x05"),
-            (Place::Y2, b"\x06\x06"),
-            (Place::Py, b"\x07\x08"),
-        ],
+        places: &[Place::Y0, Place::Y1, Place::Y2, Place::Py],
+        bytes: b"\x04\x04\x05\x05\x06\x06\x07\x08",
         answer: Answer::Contradiction,
     },
     Case {
@@ -267,22 +262,55 @@ static CASES: [Case; 17] = [
         code: Code::Narrow,
         target: Place::X0,
         length: 65_536,
-        survivors: &[],
+        places: &[],
+        bytes: b"",
         answer: Answer::Several,
     },
 ];
 
-/// The request of a case, unless it is refused.
-pub fn request_of(alloc: Global, case: &Case) -> Result<Option<Request>, AllocError> {
+/// How many cases there are.
+pub const CASES_IN_ALL: usize = 26;
+
+/// The case at an index, those of (6,2,2) first; none after the last.
+pub fn case_at(index: usize) -> Option<&'static Case> {
+    match cases().get(index) {
+        Some(case) => Some(case),
+        None => wide_cases().get(index.wrapping_sub(17)),
+    }
+}
+
+/// A fragment: these bytes, or the first of them at every third position of a length, so that no two parts of an answer are alike, and 00
+/// elsewhere.
+fn fragment(alloc: Global, bytes: &[u8], length: Option<u32>) -> Result<Vec<u8>, AllocError> {
+    let Some(length) = length else {
+        return bytes.to_vec(alloc);
+    };
+    let byte = *bytes.first().unwrap_or(&0);
+    let mut spread = Vec::with_capacity(alloc, length as usize)?;
+    for position in 0..length {
+        spread.push(if position % 3 == 0 { byte } else { 0 })?;
+    }
+    Ok(spread)
+}
+
+/// The request of a case; of a length with its bytes at every third position, if one is given. There is an error too where it is refused.
+pub fn request_of(alloc: Global, case: &Case, length: Option<u32>) -> Result<Request, AllocError> {
+    let stripe = "a".to_string(alloc)?;
     let mut survivors = Vec::new(alloc);
-    for (place, bytes) in case.survivors {
+    let mut rest = case.bytes;
+    for place in case.places {
+        let (own, others) = rest.split_at(rest.len().min(case.length as usize));
         survivors.push(Fragment {
             place: *place,
-            bytes: bytes.to_vec(alloc)?,
+            bytes: fragment(alloc, own, length)?,
         })?;
+        rest = others;
     }
-    let stripe = "a".to_string(alloc)?;
-    Ok(Request::new_in(case.code, stripe, case.target, case.length, survivors).ok())
+    let length = length.unwrap_or(case.length);
+    match Request::new_in(case.code, stripe, case.target, length, survivors) {
+        Ok(request) => Ok(request),
+        Err(_) => Err(AllocError),
+    }
 }
 
 /// The set of these places.
@@ -309,14 +337,14 @@ pub fn are_same<A: Allocator, B: Allocator>(one: &Tree<A>, other: &Tree<B>) -> b
 }
 
 /// The sum of two leaves.
-pub fn sum_of_leaves<A: Allocator + Clone>(
+pub fn sum_of_leaves<A: Allocator + Copy>(
     alloc: A,
     left: Place,
     right: Place,
 ) -> Result<Tree<A>, AllocError>
     ensures { IfOk result (λ t. form_of t ≡ Sum (Leaf left) (Leaf right)) }
 {
-    let left = Box::new(alloc.clone()?, Tree::Leaf(left))?;
+    let left = Box::new(alloc, Tree::Leaf(left))?;
     let right = Box::new(alloc, Tree::Leaf(right))?;
     Ok(Tree::Sum(left, right))
 }
@@ -331,7 +359,7 @@ pub fn scaled_leaf<A: Allocator>(
 }
 
 /// 03 * (x1 + x2)
-pub fn sample<A: Allocator + Clone>(alloc: A) -> Result<Tree<A>, AllocError> {
-    let sum = sum_of_leaves(alloc.clone()?, Place::X1, Place::X2)?;
+pub fn sample<A: Allocator + Copy>(alloc: A) -> Result<Tree<A>, AllocError> {
+    let sum = sum_of_leaves(alloc, Place::X1, Place::X2)?;
     Ok(Tree::Scale(Gf::new(0x03), Box::new(alloc, sum)?))
 }

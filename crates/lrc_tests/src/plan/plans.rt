@@ -1,172 +1,159 @@
 //! Plans and grafts against a table, in the global allocator and in an arena.
 use super::fixtures::{scaled_leaf, set_of, sum_of_leaves};
+use crate::assertions::assert_none;
 use bumpalo::Bump;
 use lrc_code::{Code, Place, PlaceSet};
-use lrc_plan::{plan, plan_in};
-use std::alloc::{AllocError, Allocator, Global};
+use lrc_plan::{Plan, Tree, plan, plan_in};
+use std::alloc::{AllocError, Allocator};
 
-/// Whether the plan of x0 is local, of three leaves, with so many checks.
-fn is_local<A: Allocator + Clone>(
-    alloc: A,
-    survivors: &[Place],
-    checks: usize,
-) -> Result<bool, AllocError> {
-    let survivors = set_of(survivors);
-    if survivors.has(Place::X0) {
-        return Ok(false);
+/// Whether a plan has a value of just these leaves, each once, and so many checks.
+fn has_leaves<A: Allocator>(plan: &Plan<A>, places: &[Place], checks: usize) -> bool {
+    match &plan.value {
+        Some(value) => {
+            plan.checks.len() == checks
+                && value.leaf_count() as usize == places.len()
+                && value.leaves() == set_of(places)
+        }
+        None => false,
     }
-    let plan = plan(alloc, survivors, Place::X0)?;
-    let Some(value) = &plan.value else {
-        return Ok(false);
-    };
-    let leaves = value.leaves();
-    Ok(
-        value.leaf_count() == 3
-            && leaves.len() == 3
-            && leaves.has(Place::X1)
-            && leaves.has(Place::X2)
-            && leaves.has(Place::Px)
-            && plan.checks.len() == checks,
-    )
 }
 
-fn local_plans<A: Allocator + Clone>(alloc: &A) -> Result<bool, AllocError> {
-    let three = [Place::X1, Place::X2, Place::Px];
-    let nine = [
-        Place::X1,
-        Place::X2,
-        Place::Y0,
-        Place::Y1,
-        Place::Y2,
-        Place::Px,
-        Place::Py,
-        Place::P0,
-        Place::P1,
-    ];
-    Ok(is_local(alloc.clone()?, &three, 0)? && is_local(alloc.clone()?, &nine, 3)?)
+/// Whether the plan of x0 has these leaves, and so many checks.
+fn is_local<A: Allocator + Copy>(
+    alloc: A,
+    code: Code,
+    survivors: PlaceSet,
+    group: &[Place],
+    checks: usize,
+) -> bool {
+    if survivors.has(Place::X0) || !code.has(Place::X0) {
+        return false;
+    }
+    let planned = match code {
+        Code::Narrow => plan(alloc, survivors, Place::X0),
+        Code::Wide => plan_in(alloc, code, survivors, Place::X0),
+    };
+    match planned {
+        Ok(plan) => has_leaves(&plan, group, checks),
+        Err(_) => false,
+    }
+}
+
+/// The others of the group of x0.
+const THREE: &[Place] = &[Place::X1, Place::X2, Place::Px];
+
+/// And in the (12,2,2) code.
+const SIX: &[Place] = &[
+    Place::X1,
+    Place::X2,
+    Place::X3,
+    Place::X4,
+    Place::X5,
+    Place::Px,
+];
+
+/// Whether the plans of x0 read the others of its group. There is no check where only those survive, and there are three where all others
+/// do.
+fn are_local<A: Allocator + Copy>(alloc: A) -> bool {
+    let x0 = PlaceSet::empty().with(Place::X0);
+    is_local(alloc, Code::Narrow, set_of(THREE), THREE, 0)
+        && is_local(alloc, Code::Narrow, Code::Narrow.others(x0), THREE, 3)
+        && is_local(alloc, Code::Wide, set_of(SIX), SIX, 0)
+        && is_local(alloc, Code::Wide, Code::Wide.others(x0), SIX, 3)
+}
+
+/// Whether a tree has two leaves of one place, whose sum is 00.
+fn is_zero_of<A: Allocator>(tree: &Tree<A>, leaf: Place) -> bool {
+    for coefficient in tree.coefficients() {
+        if coefficient.byte() != 0 {
+            return false;
+        }
+    }
+    tree.leaf_count() == 2 && tree.leaves() == PlaceSet::empty().with(leaf)
 }
 
 /// Whether a scaled leaf of x2, put in the place of these leaves of x1 + x1, leaves two leaves of one place, whose sum is 00. Where the
 /// host lacks the place it comes back.
-fn grafts_at<A: Allocator + Clone>(
-    alloc: &A,
-    place: Place,
-    leaf: Place,
-) -> Result<bool, AllocError> {
-    let host = sum_of_leaves(alloc.clone()?, Place::X1, Place::X1)?;
-    let scion = scaled_leaf(alloc.clone()?, 0x02, Place::X2)?;
-    let Ok(tree) = host.graft(alloc.clone()?, place, scion) else {
-        return Err(AllocError);
-    };
-    let leaves = tree.leaves();
-    let coefficients = tree.coefficients();
-    Ok(
-        tree.leaf_count() == 2
-            && leaves.len() == 1
-            && leaves.has(leaf)
-            && coefficients.iter().all(|c| c.byte() == 0),
-    )
-}
-
-fn plans_and_grafts<A: Allocator + Clone>(alloc: &A) -> Result<bool, AllocError> {
-    Ok(
-        local_plans(alloc)?
-            && grafts_at(alloc, Place::X1, Place::X2)?
-            && grafts_at(alloc, Place::Y0, Place::X1)?,
-    )
-}
-
-#[test]
-fn plans_are_local_and_grafts_replace_each_leaf(rt: HostRuntime) {
-    let alloc = rt.alloc();
-    assert!(&rt; plans_and_grafts(&alloc) == Ok(true), "in the heap");
-    let bump = Bump::new(alloc);
-    assert!(&rt; plans_and_grafts(&&bump) == Ok(true), "in an arena");
+fn grafts_at<A: Allocator + Copy>(alloc: A, place: Place, leaf: Place) -> Result<bool, AllocError> {
+    let host = sum_of_leaves(alloc, Place::X1, Place::X1)?;
+    let scion = scaled_leaf(alloc, 0x02, Place::X2)?;
+    match host.graft(alloc, place, scion) {
+        Ok(tree) => Ok(is_zero_of(&tree, leaf)),
+        Err(_) => Err(AllocError),
+    }
 }
 
 /// Whether the target's plan has a value that reads no more fragments than the code has data, and how many checks; none where the target
-/// survives or isn't in the code.
-fn counts<A: Allocator + Clone>(
+/// survives or isn't in the code, or memory is refused.
+fn counts<A: Allocator + Copy>(
     alloc: A,
     code: Code,
     survivors: PlaceSet,
     target: Place,
-) -> Result<Option<(bool, usize)>, AllocError> {
+) -> Option<(bool, usize)> {
     if survivors.has(target) || !code.has(target) {
-        return Ok(None);
+        return None;
     }
-    let plan = plan_in(alloc, code, survivors, target)?;
+    let Ok(plan) = plan_in(alloc, code, survivors, target) else {
+        return None;
+    };
     let has_value = match &plan.value {
         Some(value) => value.leaf_count() as usize <= code.data_count(),
         None => false,
     };
-    Ok(Some((has_value, plan.checks.len())))
+    Some((has_value, plan.checks.len()))
 }
 
 /// Whether plans made there have the known numbers of checks.
-fn have_checks<A: Allocator + Clone>(alloc: &A) -> Result<bool, AllocError> {
-    let local = set_of(&[Place::X1, Place::X2, Place::Px]);
-    let global = set_of(&[Place::Y0, Place::Py]).others();
+fn have_checks<A: Allocator + Copy>(alloc: A) -> bool {
     let whole_group = set_of(&[Place::Y0, Place::Y1, Place::Y2, Place::Py]);
     let cases = [
-        (local, Place::X0, (true, 0)),
-        (global, Place::Y0, (true, 2)),
+        (set_of(THREE), Place::X0, (true, 0)),
+        (
+            set_of(&[Place::Y0, Place::Py]).others(),
+            Place::Y0,
+            (true, 2),
+        ),
         (whole_group.others(), Place::Y0, (false, 1)),
         (whole_group.with(Place::X0).others(), Place::X0, (true, 0)),
         (PlaceSet::empty(), Place::X0, (false, 0)),
     ];
     for (survivors, target, expected) in cases {
-        if counts(alloc.clone()?, Code::Narrow, survivors, target)? != Some(expected) {
-            return Ok(false);
+        if counts(alloc, Code::Narrow, survivors, target) != Some(expected) {
+            return false;
         }
     }
-    Ok(true)
-}
-
-#[test]
-fn plans_have_the_known_numbers_of_checks(rt: HostRuntime) {
-    let alloc = rt.alloc();
-    assert!(&rt; have_checks(&alloc) == Ok(true), "in the heap");
-    let bump = Bump::new(alloc);
-    assert!(&rt; have_checks(&&bump) == Ok(true), "in an arena");
-}
-
-/// Whether each of these lost places has a value.
-fn all_have_values<A: Allocator + Clone>(
-    alloc: &A,
-    code: Code,
-    lost: &[Place],
-) -> Result<bool, AllocError> {
-    let survivors = code.others(set_of(lost));
-    for target in lost {
-        match counts(alloc.clone()?, code, survivors, *target)? {
-            Some((true, _)) => {}
-            _ => return Ok(false),
-        }
-    }
-    Ok(true)
+    true
 }
 
 /// The places whose bits are set.
-fn places_of(alloc: Global, bits: usize) -> Result<Vec<Place>, AllocError> {
-    let mut places = Vec::new(alloc);
+fn places_of(bits: usize) -> PlaceSet {
+    let mut places = PlaceSet::empty();
     for index in 0..16usize {
-        if (bits >> index) & 1 == 1 {
-            if let Some(place) = Place::from_index(index) {
-                places.push(place)?;
+        match Place::from_index(index) {
+            Some(place) if (bits >> index) & 1 == 1 => places = places.with(place),
+            _ => {}
+        }
+    }
+    places
+}
+
+/// Whether each of these lost places has a value.
+fn all_have_values<A: Allocator + Copy>(alloc: A, code: Code, lost: PlaceSet) -> bool {
+    let survivors = code.others(lost);
+    for target in code.places() {
+        if lost.has(*target) {
+            match counts(alloc, code, survivors, *target) {
+                Some((true, _)) => {}
+                _ => return false,
             }
         }
     }
-    Ok(places)
+    true
 }
 
 /// How many sets of so many lost places there are, and in how many of them all targets have values.
-fn recovered<A: Allocator + Clone>(
-    alloc: Global,
-    plan_alloc: &A,
-    code: Code,
-    len: usize,
-) -> Result<(usize, usize), AllocError> {
+fn recovered<A: Allocator + Copy>(alloc: A, code: Code, len: usize) -> (usize, usize) {
     let mut sets = 0usize;
     let mut whole = 0usize;
     let end: usize = match code {
@@ -176,28 +163,12 @@ fn recovered<A: Allocator + Clone>(
     for bits in 0..end {
         if bits.count_ones() as usize == len {
             sets = sets.saturating_add(1);
-            if all_have_values(plan_alloc, code, places_of(alloc, bits)?.as_slice())? {
+            if all_have_values(alloc, code, places_of(bits)) {
                 whole = whole.saturating_add(1);
             }
         }
     }
-    Ok((sets, whole))
-}
-
-#[test]
-fn each_three_and_most_four_lost_places_have_plans(rt: HostRuntime) {
-    let alloc = rt.alloc();
-    let bump = Bump::new(alloc);
-    for (code, lost, expected) in RECOVERED {
-        assert!(&rt;
-            recovered(alloc, &alloc, *code, *lost) == Ok(*expected),
-            "in the heap"
-        );
-        assert!(&rt;
-            recovered(alloc, &&bump, *code, *lost) == Ok(*expected),
-            "in an arena"
-        );
-    }
+    (sets, whole)
 }
 
 /// A code, how many are lost, and how many such sets there are and in how many all targets have values.
@@ -207,47 +178,32 @@ const RECOVERED: &[(Code, usize, (usize, usize))] = &[
     (Code::Wide, 3, (560, 560)),
 ];
 
-/// The others of the group of x0 in the (12,2,2) code.
-const SIX: [Place; 6] = [
-    Place::X1,
-    Place::X2,
-    Place::X3,
-    Place::X4,
-    Place::X5,
-    Place::Px,
-];
-
-/// Whether the plan of x0 in the (12,2,2) code has these six leaves, and so many checks.
-fn is_plan_of_six(alloc: Global, survivors: PlaceSet, checks: usize) -> Result<bool, AllocError> {
-    if survivors.has(Place::X0) {
-        return Ok(false);
+/// What doesn't hold of the plans that are made there.
+fn wrong_plans<A: Allocator + Copy>(alloc: A) -> Option<&'static str> {
+    if !are_local(alloc) {
+        return Some("local plans");
     }
-    let plan = plan_in(alloc, Code::Wide, survivors, Place::X0)?;
-    match &plan.value {
-        Some(value) => {
-            let leaves = value.leaves();
-            Ok(
-                plan.checks.len() == checks
-                    && value.leaf_count() == 6
-                    && leaves.len() == 6
-                    && SIX.iter().all(|place| leaves.has(*place)),
-            )
+    if !grafts_at(alloc, Place::X1, Place::X2).unwrap_or(false)
+        || !grafts_at(alloc, Place::Y0, Place::X1).unwrap_or(false)
+    {
+        return Some("grafts");
+    }
+    if !have_checks(alloc) {
+        return Some("numbers of checks");
+    }
+    for (code, lost, expected) in RECOVERED {
+        if recovered(alloc, *code, *lost) != *expected {
+            return Some("plans of three or four lost places");
         }
-        None => Ok(false),
     }
+    None
 }
 
-/// There is no check where only the six survive, and there are three where all others do.
+/// In the heap, and then in an arena. Each three lost places have plans, and most four of the (6,2,2) code.
 #[test]
-fn the_local_plan_of_the_wide_code_reads_six(rt: HostRuntime) {
+fn plans_are_the_known_ones_and_grafts_replace_each_leaf(rt: HostRuntime) {
     let alloc = rt.alloc();
-    assert!(&rt;
-        is_plan_of_six(alloc, set_of(&SIX), 0) == Ok(true),
-        "of the six alone"
-    );
-    let others = Code::Wide.others(PlaceSet::empty().with(Place::X0));
-    assert!(&rt;
-        is_plan_of_six(alloc, others, 3) == Ok(true),
-        "of all others"
-    );
+    assert_none(&rt, wrong_plans(alloc));
+    let bump = Bump::new(alloc);
+    assert_none(&rt, wrong_plans(&bump));
 }

@@ -5,23 +5,26 @@ ghost use Rattle.lrc_plan.specs.Form.{Leaf, Sum};
 ghost use Rattle.lrc_plan.specs.Evaluation.{CanEvaluate};
 ghost use Rattle.lrc_plan.specs.Tree.{form_of};
 
-use super::fixtures::{Answer, Case, are_same, cases, request_of, sample, sum_of_leaves};
+use super::fixtures::{
+    Answer, CASES_IN_ALL, Case, are_same, case_at, cases, request_of, sample, sum_of_leaves,
+};
 use super::wide_cases::wide_cases;
+use crate::assertions::assert_so;
 use bumpalo::Bump;
 use lrc_code::{Place, Request};
 use lrc_plan::{Tree, evaluate, evaluate_both, plan_in};
-use std::alloc::{AllocError, Allocator, Global};
+use std::alloc::{AllocError, Global};
 use std::thread::Threads;
 
-/// The sample in the heap, copied out of an arena that then ends; nothing where the copy differs.
-fn copied_sample(alloc: Global) -> Result<Option<Tree<Global>>, AllocError> {
+/// The sample in the heap, copied out of an arena that then ends; an error too where the copy differs.
+fn copied_sample(alloc: Global) -> Result<Tree<Global>, AllocError> {
     let bump = Bump::new(alloc);
     let inside = sample(&bump)?;
     let outside = inside.copy_in(alloc)?;
     if !are_same(&inside, &outside) {
-        return Ok(None);
+        return Err(AllocError);
     }
-    Ok(Some(outside))
+    Ok(outside)
 }
 
 /// Whether a tree has the coefficients of the sample.
@@ -38,16 +41,14 @@ fn has_coefficients(tree: &Tree<Global>) -> bool {
 
 /// Whether the copy is still the sample after its arena.
 fn copy_outlives(alloc: Global) -> Result<bool, AllocError> {
-    let Some(outside) = copied_sample(alloc)? else {
-        return Ok(false);
-    };
+    let outside = copied_sample(alloc)?;
     let expected = sample(alloc)?;
     Ok(are_same(&outside, &expected) && has_coefficients(&outside))
 }
 
 #[test]
 fn copy_outlives_its_arena(rt: HostRuntime) {
-    assert!(&rt; copy_outlives(rt.alloc()) == Ok(true));
+    assert_so(&rt, copy_outlives(rt.alloc()).unwrap_or(false));
 }
 
 /// (x1 + x2) + px
@@ -77,145 +78,105 @@ fn value_tree(alloc: Global, request: &Request) -> Result<Option<Tree<Global>>, 
     }
 }
 
-/// Whether `evaluate_both` gives these bytes at so many forks.
-fn gives<R: Threads + Sync>(
-    rt: &R,
-    alloc: Global,
-    tree: &Tree<Global>,
-    request: &Request,
-    forks: u8,
-    bytes: &[u8],
-) -> Result<bool, AllocError>
-    requires { CanEvaluate request.now (form_of tree.now) }
-{
-    let both = evaluate_both(rt, alloc, tree, request, forks)?;
-    Ok(both.as_slice() == bytes)
-}
-
-/// Whether it gives them without a fork, at two, and at the most.
-fn gives_at_any_forks<R: Threads + Sync>(
-    rt: &R,
-    alloc: Global,
-    tree: &Tree<Global>,
-    request: &Request,
-    bytes: &[u8],
-) -> Result<bool, AllocError>
-    requires { CanEvaluate request.now (form_of tree.now) }
-{
-    for forks in [0, 2, 255] {
-        if !gives(rt, alloc, tree, request, forks, bytes)? {
-            return Ok(false);
-        }
-    }
-    Ok(true)
-}
-
-/// What the value tree of a case's request gives.
-#[derive(Clone, Copy, PartialEq, Eq)]
-enum Given {
-    // There is none.
-    NoTree,
-    // Each way gives the same bytes, which are those of the case if it has any.
-    Same,
-    // And it has some.
-    Rebuilt,
-    // Something else.
-    Other,
-}
-
-fn given_by_value_tree<R: Threads + Sync>(
-    rt: &R,
-    alloc: Global,
-    case: &Case,
-) -> Result<Given, AllocError> {
-    let Some(request) = request_of(alloc, case)? else {
-        return Ok(Given::Other);
-    };
-    match value_tree(alloc, &request)? {
-        Some(tree) => given_by_tree(rt, alloc, &tree, &request, case.answer),
-        None => Ok(Given::NoTree),
-    }
-}
-
-/// What a tree that can be evaluated gives.
-fn given_by_tree<R: Threads + Sync>(
+/// How many leaves a tree that can be evaluated has, if it gives the bytes of the answer, at each of these numbers of forks too; 0 if the
+/// answer has none. None where it gives other bytes.
+fn leaves_of<R: Threads + Sync>(
     rt: &R,
     alloc: Global,
     tree: &Tree<Global>,
     request: &Request,
     answer: Answer,
-) -> Result<Given, AllocError>
+    forks: &[u8],
+) -> Result<Option<u32>, AllocError>
     requires { CanEvaluate request.now (form_of tree.now) }
 {
     let bytes = evaluate(alloc, tree, request)?;
-    if !gives_at_any_forks(rt, alloc, tree, request, &bytes)? {
-        return Ok(Given::Other);
+    for forks in forks {
+        let both = evaluate_both(rt, alloc, tree, request, *forks)?;
+        if both.as_slice() != bytes.as_slice() {
+            return Ok(None);
+        }
     }
     match answer {
-        Answer::Rebuilt(expected) if bytes.as_slice() == expected => Ok(Given::Rebuilt),
-        Answer::Rebuilt(_) => Ok(Given::Other),
-        _ => Ok(Given::Same),
+        Answer::Rebuilt(expected) if bytes.as_slice() == expected => Ok(Some(tree.leaf_count())),
+        Answer::Rebuilt(_) => Ok(None),
+        _ => Ok(Some(0)),
     }
 }
 
-/// How many of the cases are rebuilt by a value tree; none where one gives other bytes.
+/// And how many the value tree of a case's request has; 0 also if there is no such tree.
+fn leaves_given<R: Threads + Sync>(
+    rt: &R,
+    alloc: Global,
+    case: &Case,
+    forks: &[u8],
+) -> Result<Option<u32>, AllocError> {
+    let request = request_of(alloc, case, None)?;
+    match value_tree(alloc, &request)? {
+        Some(tree) => leaves_of(rt, alloc, &tree, &request, case.answer, forks),
+        None => Ok(Some(0)),
+    }
+}
+
+/// How many of the cases of each code are rebuilt by a value tree, without a fork, at two, and at the most; none where one gives other
+/// bytes.
 fn rebuilt_by_value_trees<R: Threads + Sync>(
     rt: &R,
     alloc: Global,
-    cases: &[Case],
-) -> Result<Option<u32>, AllocError> {
-    let mut rebuilt = 0u32;
-    for case in cases {
-        match given_by_value_tree(rt, alloc, case)? {
-            Given::Other => return Ok(None),
-            Given::Rebuilt => rebuilt = rebuilt.wrapping_add(1),
-            _ => {}
+) -> Result<Option<(u32, u32)>, AllocError> {
+    let mut narrow = 0u32;
+    let mut wide = 0u32;
+    for index in 0..CASES_IN_ALL {
+        if let Some(case) = case_at(index) {
+            match leaves_given(rt, alloc, case, &[0, 2, 255])? {
+                Some(0) => {}
+                Some(_) if index < 17 => narrow = narrow.wrapping_add(1),
+                Some(_) => wide = wide.wrapping_add(1),
+                None => return Ok(None),
+            }
         }
     }
-    Ok(Some(rebuilt))
+    Ok(Some((narrow, wide)))
 }
 
 #[test]
 fn value_trees_give_the_same_bytes_at_any_forks(rt: HostRuntime) -> Result<(), AllocError> {
-    assert!(&rt; rebuilt_by_value_trees(&rt, rt.alloc(), cases())? == Some(10));
-    assert!(&rt; rebuilt_by_value_trees(&rt, rt.alloc(), wide_cases())? == Some(5));
+    assert_so(
+        &rt,
+        rebuilt_by_value_trees(&rt, rt.alloc())? == Some((10, 5)),
+    );
     Ok(())
 }
 
 /// The value of twelve data, a sum within a sum eleven times. Forks above 4 count as 4, so four threads are started; a script counts them.
 #[test]
 fn the_most_forks_give_both_values(rt: HostRuntime) -> Result<(), AllocError> {
-    assert!(&rt; are_given_at_most_forks(&rt, rt.alloc())?);
+    assert_so(
+        &rt,
+        leaves_given(&rt, rt.alloc(), &wide_cases()[1], &[255])? == Some(12),
+    );
     Ok(())
-}
-
-/// Whether the value tree has twelve leaves and gives the known byte at the most forks.
-fn are_given_at_most_forks<R: Threads + Sync>(rt: &R, alloc: Global) -> Result<bool, AllocError> {
-    let Some(request) = request_of(alloc, &wide_cases()[1])? else {
-        return Ok(false);
-    };
-    match value_tree(alloc, &request)? {
-        Some(tree) if tree.leaf_count() == 12 => gives(rt, alloc, &tree, &request, 255, b"\xa6"),
-        _ => Ok(false),
-    }
 }
 
 /// Of few allocations, so that a script can refuse each of them in turn: the answer is then out of memory or these
 /// bytes.
 #[test]
 fn two_forks_give_both_values(rt: HostRuntime) -> Result<(), AllocError> {
-    assert!(&rt; are_given_at_two_forks(&rt, rt.alloc())?);
+    assert_so(&rt, leaves_at_two_forks(&rt, rt.alloc())? == Some(3));
     Ok(())
 }
 
-/// Whether the three others of a group survive, and their sum is the known byte at two forks.
-fn are_given_at_two_forks<R: Threads + Sync>(rt: &R, alloc: Global) -> Result<bool, AllocError> {
-    let Some(request) = request_of(alloc, &cases()[0])? else {
-        return Ok(false);
-    };
+/// How many leaves the sum of the three others of a group has, if they survive and it is the known byte at two forks; else none.
+fn leaves_at_two_forks<R: Threads + Sync>(
+    rt: &R,
+    alloc: Global,
+) -> Result<Option<u32>, AllocError> {
+    let case = &cases()[0];
+    let request = request_of(alloc, case, None)?;
     let survivors = request.survivors();
     if !survivors.has(Place::X1) || !survivors.has(Place::X2) || !survivors.has(Place::Px) {
-        return Ok(false);
+        return Ok(None);
     }
-    gives(rt, alloc, &three_leaves(alloc)?, &request, 2, b"\x01")
+    let tree = three_leaves(alloc)?;
+    leaves_of(rt, alloc, &tree, &request, case.answer, &[2])
 }

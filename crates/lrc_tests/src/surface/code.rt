@@ -1,28 +1,7 @@
 //! The places, refusals and outcomes of `lrc_code`: there are no others. Its calls and the fields of a fragment are named in the tests of
 //! codes and plans.
+use crate::assertions::assert_so;
 use lrc_code::{Code, Outcome, Place, PlaceSet, RequestFault, reduce, reduce_in};
-
-/// A place's index: there are no other places.
-fn index_of(place: Place) -> usize {
-    match place {
-        Place::X0 => 0,
-        Place::X1 => 1,
-        Place::X2 => 2,
-        Place::Y0 => 3,
-        Place::Y1 => 4,
-        Place::Y2 => 5,
-        Place::Px => 6,
-        Place::Py => 7,
-        Place::P0 => 8,
-        Place::P1 => 9,
-        Place::X3 => 10,
-        Place::X4 => 11,
-        Place::X5 => 12,
-        Place::Y3 => 13,
-        Place::Y4 => 14,
-        Place::Y5 => 15,
-    }
-}
 
 /// The number of a refusal: there are no others.
 fn number_of(fault: RequestFault) -> u8 {
@@ -44,25 +23,46 @@ fn has_no_bytes(outcome: &Outcome) -> bool {
     }
 }
 
-/// Whether each index is that of a place.
+/// Whether each index is that of a place: there are no other places.
 fn are_indexes() -> bool {
     for index in 0..16usize {
-        match Place::from_index(index) {
-            Some(place) if index_of(place) == index => {}
-            _ => return false,
+        let Some(place) = Place::from_index(index) else {
+            return false;
+        };
+        let expected = match place {
+            Place::X0 => 0,
+            Place::X1 => 1,
+            Place::X2 => 2,
+            Place::Y0 => 3,
+            Place::Y1 => 4,
+            Place::Y2 => 5,
+            Place::Px => 6,
+            Place::Py => 7,
+            Place::P0 => 8,
+            Place::P1 => 9,
+            Place::X3 => 10,
+            Place::X4 => 11,
+            Place::X5 => 12,
+            Place::Y3 => 13,
+            Place::Y4 => 14,
+            Place::Y5 => 15,
+        };
+        if index != expected {
+            return false;
         }
     }
     true
 }
 
-/// Whether a set without a code is reduced as in the (6,2,2) code.
-fn is_reduced_narrow(set: PlaceSet) -> bool {
-    reduce(set).pivot(0) == reduce_in(Code::Narrow, set).pivot(0)
-}
-
+/// A set without a code is reduced as in the (6,2,2) code.
 #[test]
 fn code_has_its_names(rt: HostRuntime) {
-    assert!(&rt; are_indexes() && number_of(RequestFault::WrongCode) == 29);
-    assert!(&rt; has_no_bytes(&Outcome::Several));
-    assert!(&rt; is_reduced_narrow(PlaceSet::empty().with(Place::X0)));
+    let set = PlaceSet::empty().with(Place::X0);
+    assert_so(&rt, are_indexes());
+    assert_so(&rt, number_of(RequestFault::WrongCode) == 29);
+    assert_so(&rt, has_no_bytes(&Outcome::Several));
+    assert_so(
+        &rt,
+        reduce(set).pivot(0) == reduce_in(Code::Narrow, set).pivot(0),
+    );
 }

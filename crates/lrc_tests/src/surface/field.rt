@@ -1,4 +1,5 @@
 //! The names of `lrc_field`.
+use crate::assertions::assert_so;
 use lrc_field::laws::{
     addition_associates, addition_commutes, inverse_exists, multiplication_associates,
     multiplication_commutes, multiplication_distributes,
@@ -22,8 +23,10 @@ fn summed() -> [u8; 1] {
 
 #[test]
 fn field_has_its_names(rt: HostRuntime) {
-    assert!(&rt; are_called(Gf::new(0x02), Gf::new(0x03)));
-    assert!(&rt; summed() == [0x9c]);
+    assert_so(
+        &rt,
+        are_called(Gf::new(0x02), Gf::new(0x03)) && summed() == [0x9c],
+    );
     addition_associates();
     addition_commutes();
     multiplication_associates();

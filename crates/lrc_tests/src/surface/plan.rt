@@ -1,15 +1,16 @@
 //! The nodes of `lrc_plan`'s trees and the fields of its plans: there are no others. Its calls, and what a refused graft gives back, are
 //! named in the tests beside.
+use crate::assertions::assert_so;
 use lrc_code::Place;
 use lrc_plan::{Plan, Tree};
-use std::alloc::{Allocator, Global};
+use std::alloc::Global;
 
-/// A node's place and scalar.
-fn node<A: Allocator>(tree: &Tree<A>) -> (Option<Place>, Option<u8>) {
+/// A leaf's place; none of other nodes.
+fn place_of(tree: &Tree<Global>) -> Option<Place> {
     match tree {
-        Tree::Leaf(place) => (Some(*place), None),
-        Tree::Scale(scalar, _below) => (None, Some(scalar.byte())),
-        Tree::Sum(_left, _right) => (None, None),
+        Tree::Leaf(place) => Some(*place),
+        Tree::Scale(_scalar, _below) => None,
+        Tree::Sum(_left, _right) => None,
     }
 }
 
@@ -19,11 +20,13 @@ fn is_leaf(alloc: Global) -> bool {
         value: Some(Tree::Leaf(Place::X1)),
         checks: Vec::new(alloc),
     };
-    value.is_some() && checks.is_empty()
+    match &value {
+        Some(tree) => checks.is_empty() && place_of(tree) == Some(Place::X1),
+        None => false,
+    }
 }
 
 #[test]
 fn trees_and_plans_have_their_names(rt: HostRuntime) {
-    assert!(&rt; node::<Global>(&Tree::Leaf(Place::X1)) == (Some(Place::X1), None));
-    assert!(&rt; is_leaf(rt.alloc()));
+    assert_so(&rt, is_leaf(rt.alloc()));
 }

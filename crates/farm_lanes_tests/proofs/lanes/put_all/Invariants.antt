@@ -1,9 +1,5 @@
-use Rattle.std.proofs.Common.{◌≡◌, length}
+use Rattle.std.proofs.Common.{◌≡◌}
 use Rattle.farm_lanes_tests.proofs.lanes.put_all.Given as goal
 
 abbrev pub invariant-loop-number : goal.invariant-loop-number
-invariant-loop-number g l = record {
-  count : length l.end.put ≡ l.number;
-  lane : l.end.lane ≡ l.fn.end.lane;
-  sender : l.end.sender ≡ l.fn.end.sender;
-}
+invariant-loop-number g l = record { lane : l.end.lane ≡ l.fn.end.lane; sender : l.end.sender ≡ l.fn.end.sender }
