@@ -19,5 +19,3 @@ mod lists;
 #[cfg(test)]
 mod reports;
 pub mod samples;
-#[cfg(test)]
-mod texts;

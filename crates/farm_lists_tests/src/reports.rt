@@ -1,10 +1,11 @@
 //! Reports, by the calls that make them alone.
+use crate::asserting::assert_holds;
 use crate::samples::{EMPTY_REPORT, LIST, REPORT, REPORT_WITHOUT_PX};
-use farm_lists::{Listed, Record, read_list, requests_before_close};
+use farm_lists::{ListFault, Record, count_requests, read_list};
 use farm_reports::{ReportRow, ReportShape, merged_report_text, report_text};
-use lrc_code::{Bytes, Code, Outcome, Place};
+use lrc_code::{Bytes, Outcome, Place};
 use std::alloc::{AllocError, Global};
-use std::process::Abort;
+use std::slice;
 
 /// One request of the (12,2,2) code.
 const WIDE_LIST: &[u8] = b"order,stripe,target,length,survivors,code
@@ -15,171 +16,174 @@ const WIDE_REPORT: &[u8] = b"number,stripe,target,length,outcome,digest,unread,c
 0,abc,x0,3,rebuilt,ba7816bf8f01cfea414140de5dae2223b00361a396177a9cb410ff61f20015ad,,12-2-2
 ";
 
-/// The report on a rack whose first feed has one request, and whose second has none.
-const REPORT_OF_TWO_FEEDS: &[u8] = b"number,feed,stripe,target,length,outcome,digest,unread
-0,0,abc,x0,3,rebuilt,ba7816bf8f01cfea414140de5dae2223b00361a396177a9cb410ff61f20015ad,
-";
-
-const REPORT_OF_FEEDS_AND_CODES: &[u8] =
-    b"number,feed,stripe,target,length,outcome,digest,unread,code
-0,3,def,y4,65536,contradiction,,,12-2-2
-1,0,abc,x0,3,rebuilt,ba7816bf8f01cfea414140de5dae2223b00361a396177a9cb410ff61f20015ad,,6-2-2
-2,3,def,p1,1,several,,y3 px,12-2-2
-";
-
-/// The request that a list begins with.
-fn first_listed(list: &[Record]) -> Option<&Listed> {
-    match list {
-        [Record::Rebuild(listed), ..] => Some(listed),
-        _ => None,
-    }
-}
-
+/// The fragment `abc`.
 fn rebuilt(alloc: Global) -> Result<Outcome, AllocError> {
     Ok(Outcome::Rebuilt(Bytes::new(Vec::from_slice(alloc, b"abc")?)))
 }
 
-/// Asserts that the report on the one request of a list with this outcome and these places left out is this one.
-fn assert_reported(
-    rt: &impl Abort,
+/// Whether the report on the one request of a list is this one. Its fragment is rebuilt if none of its survivors is left out; else there
+/// are several.
+fn is_reported(
     alloc: Global,
     list: &[u8],
-    outcome: Outcome,
     unread: &[Place],
     report: &[u8],
-) -> Result<(), AllocError> {
-    let Ok(list) = read_list(alloc, list) else {
-        panic!(rt; "the list is refused");
+) -> Result<bool, ListFault> {
+    let outcome = if unread.is_empty() {
+        rebuilt(alloc)?
+    } else {
+        Outcome::Several
     };
-    if requests_before_close(alloc, &list)?.len() != 1 {
-        panic!(rt; "not one request");
-    }
+    let list = read_list(alloc, list)?;
     let unread = Vec::from_slice(alloc, unread)?;
-    let text = report_text(alloc, &list, &[outcome], &[unread])?;
-    assert_eq!(rt; str::from_utf8(&text), str::from_utf8(report));
-    Ok(())
+    let text = text_of(alloc, list.as_slice(), &outcome, &unread)?;
+    Ok(text.as_slice() == report)
 }
 
-#[test]
-fn a_request_has_its_row(rt: HostRuntime) -> Result<(), AllocError> {
-    let alloc = rt.alloc();
-    assert_reported(&rt, alloc, LIST, rebuilt(alloc)?, &[], REPORT)?;
-    let several = Outcome::Several;
-    assert_reported(&rt, alloc, LIST, several, &[Place::Px], REPORT_WITHOUT_PX)?;
-    assert_reported(&rt, alloc, WIDE_LIST, rebuilt(alloc)?, &[], WIDE_REPORT)
-}
-
-#[test]
-fn a_rack_of_two_feeds_has_their_column(rt: HostRuntime) -> Result<(), AllocError> {
-    let alloc = rt.alloc();
-    let Ok(list) = read_list(alloc, LIST) else {
-        panic!(&rt; "the list is refused");
-    };
-    let Some(request) = first_listed(list.as_slice()) else {
-        panic!(&rt; "the list doesn't begin with a request");
-    };
-    let outcome = rebuilt(alloc)?;
-    let row = ReportRow {
-        feed: 0,
-        listed: request,
-        outcome: &outcome,
-        unread: &[],
-    };
-    let shape = ReportShape {
-        feeds: true,
-        codes: false,
-    };
-    let text = merged_report_text(alloc, shape, &[row])?;
-    assert_eq!(&rt; str::from_utf8(&text), str::from_utf8(REPORT_OF_TWO_FEEDS));
-    Ok(())
-}
-
-/// A request without listed survivors.
-fn request(
+/// The report on a list of one request, and nothing for another list.
+fn text_of(
     alloc: Global,
-    code: Code,
-    stripe: &str,
-    target: Place,
-    length: u32,
-) -> Result<Option<Listed>, AllocError> {
-    let stripe = String::from_str(alloc, stripe)?;
-    Ok(Listed::new(code, stripe, target, length, Vec::new(alloc)).ok())
+    list: &[Record],
+    outcome: &Outcome,
+    unread: &Vec<Place>,
+) -> Result<Vec<u8>, AllocError> {
+    if count_requests(list) != 1 {
+        return Ok(Vec::new(alloc));
+    }
+    report_text(
+        alloc,
+        list,
+        slice::from_ref(outcome),
+        slice::from_ref(unread),
+    )
 }
 
+/// Names of cases, lists of one request, the survivors that are left out, and the report.
+static REPORTS: [(&str, &[u8], &[Place], &[u8]); 3] = [
+    ("rebuilt", LIST, &[], REPORT),
+    ("several", LIST, &[Place::Px], REPORT_WITHOUT_PX),
+    ("wide", WIDE_LIST, &[], WIDE_REPORT),
+];
+
 #[test]
-fn rows_name_their_feeds_and_codes(rt: HostRuntime) -> Result<(), AllocError> {
-    let alloc = rt.alloc();
-    let Some(first) = request(alloc, Code::Wide, "def", Place::Y4, 65_536)? else {
-        panic!(&rt; "the first request is refused");
-    };
-    let Some(second) = request(alloc, Code::Narrow, "abc", Place::X0, 3)? else {
-        panic!(&rt; "the second request is refused");
-    };
-    let Some(third) = request(alloc, Code::Wide, "def", Place::P1, 1)? else {
-        panic!(&rt; "the third request is refused");
-    };
+fn a_request_has_its_row(rt: HostRuntime) {
+    for (name, list, unread, report) in &REPORTS {
+        let is = is_reported(rt.alloc(), list, unread, report) == Ok(true);
+        assert_holds(&rt, is, *name);
+    }
+}
+
+/// The requests of the rows, without survivors.
+static LIST_OF_ROWS: &[u8] = b"order,stripe,target,length,survivors,code
+rebuild,def,y4,65536,,12-2-2
+rebuild,abc,x0,3,,6-2-2
+rebuild,def,p1,1,,12-2-2
+";
+
+/// The report of a shape on the rows from one on and before another.
+fn merged(
+    alloc: Global,
+    shape: ReportShape,
+    first: usize,
+    end: usize,
+) -> Result<Vec<u8>, ListFault> {
     let outcome = rebuilt(alloc)?;
+    let list = read_list(alloc, LIST_OF_ROWS)?;
+    let [
+        Record::Rebuild(wide),
+        Record::Rebuild(narrow),
+        Record::Rebuild(last),
+    ] = list.as_slice()
+    else {
+        return Err(ListFault::BadHeader);
+    };
     let rows = [
         ReportRow {
             feed: 3,
-            listed: &first,
+            listed: wide,
             outcome: &Outcome::Contradiction,
             unread: &[],
         },
         ReportRow {
             feed: 0,
-            listed: &second,
+            listed: narrow,
             outcome: &outcome,
             unread: &[],
         },
         ReportRow {
             feed: 3,
-            listed: &third,
+            listed: last,
             outcome: &Outcome::Several,
             unread: &[Place::Y3, Place::Px],
         },
     ];
-    let shape = ReportShape {
-        feeds: true,
-        codes: true,
-    };
-    let text = merged_report_text(alloc, shape, &rows)?;
-    assert_eq!(&rt;
-        str::from_utf8(&text),
-        str::from_utf8(REPORT_OF_FEEDS_AND_CODES)
-    );
-    Ok(())
+    let rows = rows.get(first..end).unwrap_or(&[]);
+    Ok(merged_report_text(alloc, shape, rows)?)
 }
 
-/// Reports without rows, of racks with feeds or without, and with codes or without.
-const WITHOUT_ROWS: &[(bool, bool, &[u8])] = &[
-    (false, false, EMPTY_REPORT),
+/// Whether the report of a shape on the rows from one on and before another is this one.
+fn is_merged(alloc: Global, shape: ReportShape, first: usize, end: usize, report: &[u8]) -> bool {
+    match merged(alloc, shape, first, end) {
+        Ok(text) => text.as_slice() == report,
+        Err(_) => false,
+    }
+}
+
+/// Whether there is a column of feeds, and one of codes; the first row, and the one after the last; and the report: without rows, on a
+/// rack of two feeds of which the second has no request, and with all rows.
+static MERGED: [(bool, bool, usize, usize, &[u8]); 6] = [
+    (false, false, 0, 0, EMPTY_REPORT),
     (
         false,
         true,
+        0,
+        0,
         b"number,stripe,target,length,outcome,digest,unread,code\n",
     ),
     (
         true,
         false,
+        0,
+        0,
         b"number,feed,stripe,target,length,outcome,digest,unread\n",
     ),
     (
         true,
         true,
+        0,
+        0,
         b"number,feed,stripe,target,length,outcome,digest,unread,code\n",
+    ),
+    (
+        true,
+        false,
+        1,
+        2,
+        b"number,feed,stripe,target,length,outcome,digest,unread
+0,0,abc,x0,3,rebuilt,ba7816bf8f01cfea414140de5dae2223b00361a396177a9cb410ff61f20015ad,
+",
+    ),
+    (
+        true,
+        true,
+        0,
+        3,
+        b"number,feed,stripe,target,length,outcome,digest,unread,code
+0,3,def,y4,65536,contradiction,,,12-2-2
+1,0,abc,x0,3,rebuilt,ba7816bf8f01cfea414140de5dae2223b00361a396177a9cb410ff61f20015ad,,6-2-2
+2,3,def,p1,1,several,,y3 px,12-2-2
+",
     ),
 ];
 
 #[test]
-fn reports_without_rows_have_their_header(rt: HostRuntime) -> Result<(), AllocError> {
-    for (feeds, codes, expected) in WITHOUT_ROWS {
+fn rows_name_their_feeds_and_codes(rt: HostRuntime) {
+    for (feeds, codes, first, end, report) in &MERGED {
         let shape = ReportShape {
             feeds: *feeds,
             codes: *codes,
         };
-        let text = merged_report_text(rt.alloc(), shape, &[])?;
-        assert_eq!(&rt; str::from_utf8(&text), str::from_utf8(expected));
+        let is = is_merged(rt.alloc(), shape, *first, *end, report);
+        assert_holds(&rt, is, (*feeds, *codes, *end));
     }
-    Ok(())
 }

@@ -1,9 +1,9 @@
 //! Readers and writers that give and take little, or fail.
-use crate::asserting::{MODES, Mode, assert_same};
-use line_mode::{LineCount, LineFault, line_status};
+use crate::asserting::assert_holds;
+use crate::running::{Calls, Replies, has_replied, run};
+use line_mode::{LineFault, line_mode_in_threads, line_status};
 use std::io;
-use std::io::{ErrorKind, Read, Write};
-use std::process::Abort;
+use std::io::{ErrorKind, Read};
 use std::thread::Threads;
 
 /// The input of the program's stored run, whose ten lines are all answered.
@@ -29,206 +29,111 @@ contradiction\n\
 several\n\
 several\n";
 
-/// Whether each call of a device works, or which one fails, and how.
-#[derive(Clone, Copy)]
-enum Calls {
-    AllWork,
-    OneFails(u64, ErrorKind),
-}
-
-/// A reader that gives at most so many bytes at each call, and fails at one call.
-#[derive(Drop)]
-struct PieceReader<'a> {
-    rest: &'a [u8],
-    most: usize,
-    calls: u64,
-    rule: Calls,
-}
-
-/// Counts a call, and fails where it is the one that does.
-fn count_call(calls: &mut u64, rule: Calls) -> io::Result<()> {
-    let number = *calls;
-    *calls = number.saturating_add(1);
-    match rule {
-        Calls::OneFails(at, kind) if at == number => Err(io::Error::from(kind)),
-        _ => Ok(()),
-    }
-}
-
-impl Read for PieceReader<'_> {
-    fn read(&mut self, buf: &mut [u8]) -> io::Result<usize> {
-        count_call(&mut self.calls, self.rule)?;
-        let n = buf.len().min(self.rest.len()).min(self.most);
-        buf[..n].copy_from_slice(&self.rest[..n]);
-        self.rest = &self.rest[n..];
-        Ok(n)
-    }
-}
-
-/// A writer that takes at most so many bytes at each call, and fails at one call; a flush counts as a call. How much was
-/// flushed is kept.
-#[derive(Drop)]
-struct PieceWriter {
-    text: Vec<u8>,
-    flushed: usize,
-    most: usize,
-    calls: u64,
-    rule: Calls,
-}
-
-impl Write for PieceWriter {
-    fn write(&mut self, buf: &[u8]) -> io::Result<usize> {
-        count_call(&mut self.calls, self.rule)?;
-        let n = buf.len().min(self.most);
-        self.text.extend_from_slice(&buf[..n])?;
-        Ok(n)
-    }
-
-    fn flush(&mut self) -> io::Result<()> {
-        count_call(&mut self.calls, self.rule)?;
-        self.flushed = self.text.len();
-        Ok(())
-    }
-}
-
-/// What a run of line mode over the ten lines left.
-#[derive(Drop)]
-struct Run {
-    text: Vec<u8>,
-    flushed: usize,
-    answer: Result<LineCount, LineFault>,
-    reads: u64,
-    writes: u64,
-}
-
-/// Line mode over the ten lines, by devices that move so many bytes at a call.
-fn run_ten(
-    rt: &(impl AllocGlobal + Threads + Sync),
-    mode: Mode,
-    most: usize,
-    reading: Calls,
-    writing: Calls,
-) -> Run {
-    let alloc = rt.alloc();
-    let mut input = PieceReader {
-        rest: TEN_LINES,
-        most,
-        calls: 0,
-        rule: reading,
-    };
-    let mut output = PieceWriter {
-        text: Vec::new(alloc),
-        flushed: 0,
-        most,
-        calls: 0,
-        rule: writing,
-    };
-    let answer = mode.reply(rt, alloc, &mut input, &mut output);
-    Run {
-        text: output.text,
-        flushed: output.flushed,
-        answer,
-        reads: input.calls,
-        writes: output.calls,
-    }
-}
-
-const ALL_ANSWERED: Result<LineCount, LineFault> = Ok(LineCount {
-    answered: 10,
-    refused: 0,
-});
-
-/// Asserts that a run wrote all replies and answers so.
-fn assert_whole(rt: &(impl Abort + AllocGlobal), run: &Run) {
-    assert_same(rt, &str::from_utf8(&run.text), &str::from_utf8(TEN_REPLIES));
-    assert_same(rt, &run.answer, &ALL_ANSWERED);
-}
+/// How many bytes a device moves at a call, how many reads give the 376 bytes of the ten lines and then their end, and the calls. A read or
+/// a write that is interrupted is made again.
+static WHOLE: [(usize, u64, Calls, Calls); 9] = [
+    (1, 377, Calls::AllWork, Calls::AllWork),
+    (2, 189, Calls::AllWork, Calls::AllWork),
+    (7, 55, Calls::AllWork, Calls::AllWork),
+    (100, 5, Calls::AllWork, Calls::AllWork),
+    (1000, 2, Calls::AllWork, Calls::AllWork),
+    (
+        200,
+        4,
+        Calls::OneFails(0, ErrorKind::Interrupted),
+        Calls::AllWork,
+    ),
+    (
+        200,
+        4,
+        Calls::OneFails(1, ErrorKind::Interrupted),
+        Calls::AllWork,
+    ),
+    (
+        200,
+        4,
+        Calls::OneFails(2, ErrorKind::Interrupted),
+        Calls::AllWork,
+    ),
+    (
+        1000,
+        2,
+        Calls::AllWork,
+        Calls::OneFails(0, ErrorKind::Interrupted),
+    ),
+];
 
 /// All is flushed, and nothing is read but the pieces and the end.
 #[test]
-fn takes_small_pieces(rt: HostRuntime) {
-    for mode in MODES {
-        for most in [1usize, 2, 7, 100, 1000] {
-            let run = run_ten(&rt, mode, most, Calls::AllWork, Calls::AllWork);
-            let pieces = TEN_LINES.len().div_ceil(most) as u64;
-            assert_whole(&rt, &run);
-            assert_same(&rt, &run.flushed, &TEN_REPLIES.len());
-            assert_same(&rt, &run.reads, &pieces.saturating_add(1));
+fn takes_small_pieces_and_goes_on_after_interruptions(rt: HostRuntime) {
+    for in_threads in &[false, true] {
+        for (most, reads, reading, writing) in &WHOLE {
+            let run = run(&rt, *in_threads, TEN_LINES, *most, reading, writing);
+            let is_flushed = run.flushed == TEN_REPLIES.len() && run.reads == *reads;
+            let is = is_flushed && has_replied(&run, TEN_REPLIES, 10, 0);
+            assert_holds(&rt, is, (*in_threads, *most, run.reads));
         }
     }
 }
 
-/// Whether a run ended at a fault of a device.
-fn is_faulty(run: &Run) -> bool {
-    run.answer == Err(LineFault::Device) && line_status(&run.answer) == 3
+/// Whether a run ended at the read or the write of this number and didn't make it again. After a failed read nothing is written.
+fn has_ended(run: &Replies, at_read: bool, number: u64) -> bool {
+    let is_faulty = run.answer == Err(LineFault::Device) && line_status(&run.answer) == 3;
+    let calls = number.saturating_add(1);
+    let has_stopped = if at_read {
+        run.text.is_empty() && run.writes == 0 && run.reads == calls
+    } else {
+        TEN_REPLIES.starts_with(&run.text) && run.writes == calls
+    };
+    is_faulty && has_stopped
 }
 
-/// Asserts that a run ended so, and so many bytes, writes and reads of it.
-fn assert_faulty_read(rt: &impl Abort, mode: Mode, run: &Run, reads: u64) {
-    let is = is_faulty(run) && run.text.is_empty() && run.writes == 0 && run.reads == reads;
-    assert!(rt; is, "{mode:?} {reads} reads");
-}
-
-/// Asserts that a run ended so at a write, what it wrote, and how often.
-fn assert_faulty_write(rt: &impl Abort, mode: Mode, run: &Run, writes: u64) {
-    let is = is_faulty(run) && TEN_REPLIES.starts_with(&run.text) && run.writes == writes;
-    assert!(rt; is, "{mode:?} {writes} writes");
-}
-
-/// Asserts that a read that fails, whichever it is, ends line mode, is not made again, and leaves the writer alone.
-fn assert_ends_at_reads(rt: &(impl Abort + AllocGlobal + Threads + Sync), mode: Mode, most: usize) {
-    let whole = run_ten(rt, mode, most, Calls::AllWork, Calls::AllWork);
-    assert_same(rt, &(1 < whole.reads), &true);
-    for k in 0..whole.reads {
-        let reading = Calls::OneFails(k, ErrorKind::Other);
-        let run = run_ten(rt, mode, most, reading, Calls::AllWork);
-        assert_faulty_read(rt, mode, &run, k.saturating_add(1));
-    }
-}
-
-#[test]
-fn ends_at_failed_reads(rt: HostRuntime) {
-    for mode in MODES {
-        for most in [1usize, 100, 1000] {
-            assert_ends_at_reads(&rt, mode, most);
-        }
-    }
-}
-
-/// Asserts that a write or a flush that fails, whichever it is, ends line mode and is not made again.
-fn assert_ends_at_writes(
-    rt: &(impl Abort + AllocGlobal + Threads + Sync),
-    mode: Mode,
+/// How many reads a whole run makes, or how many writes and flushes, where each of them that fails ends line mode.
+fn ending_calls(
+    rt: &(impl AllocGlobal + Threads + Sync),
+    in_threads: bool,
     most: usize,
-) {
-    let whole = run_ten(rt, mode, most, Calls::AllWork, Calls::AllWork);
-    assert_same(rt, &(1 < whole.writes), &true);
-    for k in 0..whole.writes {
-        let writing = Calls::OneFails(k, ErrorKind::Other);
-        let run = run_ten(rt, mode, most, Calls::AllWork, writing);
-        assert_faulty_write(rt, mode, &run, k.saturating_add(1));
-    }
-}
-
-#[test]
-fn ends_at_failed_writes(rt: HostRuntime) {
-    for mode in MODES {
-        for most in [1usize, 10, 1000] {
-            assert_ends_at_writes(&rt, mode, most);
+    at_read: bool,
+) -> Option<u64> {
+    for number in 0..1000u64 {
+        let fails = Calls::OneFails(number, ErrorKind::Other);
+        let works = Calls::AllWork;
+        let (reading, writing) = if at_read {
+            (&fails, &works)
+        } else {
+            (&works, &fails)
+        };
+        let run = run(rt, in_threads, TEN_LINES, most, reading, writing);
+        let calls = if at_read { run.reads } else { run.writes };
+        if calls == number {
+            return has_replied(&run, TEN_REPLIES, 10, 0).then_some(number);
+        }
+        if !has_ended(&run, at_read, number) {
+            return None;
         }
     }
+    None
 }
 
-/// A read or a write that is interrupted is made again.
+/// How many bytes a device moves at a call, and whether its reads fail, or else its writes and flushes.
+static FAILING: [(usize, bool); 6] = [
+    (1, true),
+    (100, true),
+    (1000, true),
+    (1, false),
+    (10, false),
+    (1000, false),
+];
+
+/// Whichever call it is.
 #[test]
-fn goes_on_after_interruptions(rt: HostRuntime) {
-    for mode in MODES {
-        for k in 0..3u64 {
-            let interrupted = Calls::OneFails(k, ErrorKind::Interrupted);
-            assert_whole(&rt, &run_ten(&rt, mode, 200, interrupted, Calls::AllWork));
+fn ends_at_failed_reads_and_writes(rt: HostRuntime) {
+    for in_threads in &[false, true] {
+        for (most, at_read) in &FAILING {
+            let calls = ending_calls(&rt, *in_threads, *most, *at_read);
+            let is = matches!(calls, Some(number) if 1 < number);
+            assert_holds(&rt, is, (*in_threads, *most, *at_read));
         }
-        let interrupted = Calls::OneFails(0, ErrorKind::Interrupted);
-        assert_whole(&rt, &run_ten(&rt, mode, 1000, Calls::AllWork, interrupted));
     }
 }
 
@@ -251,7 +156,7 @@ impl Read for InterruptedReader {
 fn ends_for_an_interrupted_reader(rt: HostRuntime) {
     let mut input = InterruptedReader { calls: 0 };
     let mut output = Vec::new(rt.alloc());
-    let answer = Mode::InThreads.reply(&rt, rt.alloc(), &mut input, &mut output);
-    assert_same(&rt, &answer, &Err(LineFault::Device));
-    assert_same(&rt, &(output.len(), input.calls), &(0, 16_777_216));
+    let answer = line_mode_in_threads(&rt, rt.alloc(), &mut input, &mut output);
+    let is = answer == Err(LineFault::Device) && output.is_empty() && input.calls == 16_777_216;
+    assert_holds(&rt, is, input.calls);
 }

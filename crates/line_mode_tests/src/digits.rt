@@ -1,108 +1,104 @@
 //! Hexadecimal digits, which are read and written many at once. Where x1 and x2 are 00 everywhere, x0 is px.
-use crate::asserting::assert_replies;
+use crate::running::assert_replies;
 use std::alloc::{AllocError, Global};
-use std::process::Abort;
-use std::thread::Threads;
 
-/// Lengths around those that are read at once.
-const LENGTHS: [usize; 14] = [1, 2, 7, 8, 9, 15, 16, 17, 31, 32, 33, 64, 65, 127];
+/// The digits in either case, twelve times.
+const GIVEN: &[u8] = b"\
+0123456789abcdefABCDEF0123456789abcdefABCDEF\
+0123456789abcdefABCDEF0123456789abcdefABCDEF\
+0123456789abcdefABCDEF0123456789abcdefABCDEF\
+0123456789abcdefABCDEF0123456789abcdefABCDEF\
+0123456789abcdefABCDEF0123456789abcdefABCDEF\
+0123456789abcdefABCDEF0123456789abcdefABCDEF";
 
-/// The digits, in either case, and as they are written.
-const GIVEN: &str = "0123456789abcdefABCDEF";
+/// As they are written.
+const WRITTEN: &[u8] = b"\
+0123456789ABCDEFABCDEF0123456789ABCDEFABCDEF\
+0123456789ABCDEFABCDEF0123456789ABCDEFABCDEF\
+0123456789ABCDEFABCDEF0123456789ABCDEFABCDEF\
+0123456789ABCDEFABCDEF0123456789ABCDEFABCDEF\
+0123456789ABCDEFABCDEF0123456789ABCDEFABCDEF\
+0123456789ABCDEFABCDEF0123456789ABCDEFABCDEF";
 
-const WRITTEN: &str = "0123456789ABCDEFABCDEF";
+const ZEROS: &[u8] = &[b'0'; 264];
 
-/// So many characters of a text that begins anew at its end.
-fn cycled(alloc: Global, text: &str, count: usize) -> Result<String, AllocError> {
-    let mut cycled = String::new(alloc);
-    for c in text.chars().cycle().take(count) {
-        cycled.push(c)?;
+/// Pieces one after the other.
+fn joined(alloc: Global, pieces: &[&[u8]]) -> Result<Vec<u8>, AllocError> {
+    let mut text = Vec::new(alloc);
+    for piece in pieces {
+        text.extend_from_slice(piece)?;
     }
-    Ok(cycled)
+    Ok(text)
 }
 
-/// A line of digits at this length.
-fn line_of(alloc: Global, length: usize) -> Result<String, AllocError> {
-    let zeros = cycled(alloc, "0", length.wrapping_mul(2))?;
-    let digits = cycled(alloc, GIVEN, length.wrapping_mul(2))?;
-    Ok(format!(in alloc; "a x0 {length} x1={zeros} x2={zeros} px={digits}\n")?)
+/// So many first bytes of a text.
+fn first_of(text: &[u8], count: usize) -> &[u8] {
+    text.get(..count).unwrap_or(&[])
+}
+
+/// The line of so many digits, which begins so.
+fn line_of(alloc: Global, begin: &[u8], count: usize) -> Result<Vec<u8>, AllocError> {
+    let zeros = first_of(ZEROS, count);
+    let digits = first_of(GIVEN, count);
+    joined(
+        alloc,
+        &[
+            begin, b" x1=", zeros, b" x2=", zeros, b" px=", digits, b"\n",
+        ],
+    )
 }
 
 /// The reply to it.
-fn reply_of(alloc: Global, length: usize) -> Result<String, AllocError> {
-    let written = cycled(alloc, WRITTEN, length.wrapping_mul(2))?;
-    Ok(format!(in alloc; "rebuilt {written}\n")?)
+fn reply_of(alloc: Global, count: usize) -> Result<Vec<u8>, AllocError> {
+    joined(alloc, &[b"rebuilt ", first_of(WRITTEN, count), b"\n"])
 }
 
-/// Asserts that digits are read and written at this length.
-fn assert_digits(
-    rt: &(impl Abort + AllocGlobal + Threads + Sync),
-    length: usize,
-) -> Result<(), AllocError> {
-    let line = line_of(rt.alloc(), length)?;
-    let reply = reply_of(rt.alloc(), length)?;
-    assert_replies(rt, line.as_bytes(), reply.as_bytes(), 1, 0);
-    Ok(())
-}
+/// How a line begins, and the number of its digits: at lengths around those that are read at once.
+static LENGTHS: [(&[u8], usize); 14] = [
+    (b"a x0 1", 2),
+    (b"a x0 2", 4),
+    (b"a x0 7", 14),
+    (b"a x0 8", 16),
+    (b"a x0 9", 18),
+    (b"a x0 15", 30),
+    (b"a x0 16", 32),
+    (b"a x0 17", 34),
+    (b"a x0 31", 62),
+    (b"a x0 32", 64),
+    (b"a x0 33", 66),
+    (b"a x0 64", 128),
+    (b"a x0 65", 130),
+    (b"a x0 127", 254),
+];
 
 #[test]
 fn digits_are_read_and_written_at_many_lengths(rt: HostRuntime) -> Result<(), AllocError> {
-    for length in LENGTHS {
-        assert_digits(&rt, length)?;
+    for (begin, count) in &LENGTHS {
+        let line = line_of(rt.alloc(), begin, *count)?;
+        let reply = reply_of(rt.alloc(), *count)?;
+        assert_replies(&rt, &line, &reply, 1, 0);
     }
     Ok(())
 }
 
-/// A character that is no digit is found at each index.
+/// A character that is no digit is found at each index. Of all bytes the 22 digits are digits, and no other.
 #[test]
-fn a_bad_digit_is_refused_at_each_place(rt: HostRuntime) -> Result<(), AllocError> {
-    let digits = cycled(rt.alloc(), GIVEN, 80)?;
+fn digits_alone_are_read_as_digits(rt: HostRuntime) {
     for place in 0..80usize {
-        let line = line_with_bad_digit(rt.alloc(), digits.as_str(), place)?;
+        let mut line =
+            *b"a x0 40 px=0123456789abcdefABCDEF0123456789abcdefABCDEF0123456789abcdefABCDEF0123456789abcd\n";
+        line[11 + place] = b'G';
         assert_replies(&rt, &line, b"refused E22\n", 0, 1);
     }
-    Ok(())
-}
-
-/// A line with these digits, of which the one at a place is no digit.
-fn line_with_bad_digit(alloc: Global, digits: &str, place: usize) -> Result<Vec<u8>, AllocError> {
-    let mut line = Vec::from_slice(alloc, b"a x0 40 px=")?;
-    line.extend_from_slice(digits.as_bytes())?;
-    line.push(b'\n')?;
-    if let Some(digit) = line.get_mut(place.saturating_add(11)) {
-        *digit = b'G';
-    }
-    Ok(line)
-}
-
-/// Asserts that a byte is read as a digit just where it is one.
-fn assert_digit(
-    rt: &(impl Abort + AllocGlobal + Threads + Sync),
-    byte: u8,
-) -> Result<(), AllocError> {
-    let line = ending(rt.alloc(), b"a x0 1 x1=00 x2=00 px=0", byte)?;
-    if GIVEN.as_bytes().contains(&byte) {
-        let reply = ending(rt.alloc(), b"rebuilt 0", byte.to_ascii_uppercase())?;
-        assert_replies(rt, &line, &reply, 1, 0);
-    } else {
-        assert_replies(rt, &line, b"refused E22\n", 0, 1);
-    }
-    Ok(())
-}
-
-/// A line that ends in this byte.
-fn ending(alloc: Global, front: &[u8], byte: u8) -> Result<Vec<u8>, AllocError> {
-    let mut line = Vec::from_slice(alloc, front)?;
-    line.push(byte)?;
-    line.push(b'\n')?;
-    Ok(line)
-}
-
-/// Of all bytes the 22 digits are digits, and no other.
-#[test]
-fn digits_alone_are_read_as_digits(rt: HostRuntime) -> Result<(), AllocError> {
     for byte in 0..=255u8 {
-        assert_digit(&rt, byte)?;
+        let mut line = *b"a x0 1 x1=00 x2=00 px=00\n";
+        line[23] = byte;
+        let mut reply = *b"rebuilt 00\n";
+        reply[9] = byte.to_ascii_uppercase();
+        if GIVEN.contains(&byte) {
+            assert_replies(&rt, &line, &reply, 1, 0);
+        } else {
+            assert_replies(&rt, &line, b"refused E22\n", 0, 1);
+        }
     }
-    Ok(())
 }

@@ -11,6 +11,8 @@ mod digits;
 #[cfg(test)]
 mod limits;
 #[cfg(test)]
+mod running;
+#[cfg(test)]
 mod surface;
 #[cfg(test)]
 mod threads;

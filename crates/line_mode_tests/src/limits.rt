@@ -1,17 +1,11 @@
 //! The greatest input and one byte more, and long lines.
-use crate::asserting::{Mode, assert_replies, assert_same};
-use line_mode::{LineCount, LineFault, line_status};
+use crate::asserting::assert_holds;
+use crate::running::assert_replies;
+use line_mode::{LineCount, LineFault, line_mode, line_mode_in_threads, line_status};
 use std::alloc::{AllocError, Global};
 use std::io;
 use std::io::Read;
-use std::process::Abort;
 use std::thread::Threads;
-
-/// The greatest length of an input.
-const GREATEST: usize = 8_388_608;
-
-/// How many bytes are asked of a reader at once.
-const BLOCK: usize = 65_536;
 
 /// A reader that gives a byte so many times, at most so often at each call, and counts the calls.
 #[derive(Drop)]
@@ -32,117 +26,160 @@ impl Read for Bytes {
     }
 }
 
-/// Asserts what line mode answers to a reader, that it writes nothing, and that it reads so often at most.
-fn assert_answer(
-    rt: &(impl Abort + AllocGlobal + Threads + Sync),
-    mode: Mode,
-    input: &mut Bytes,
-    reads: usize,
-    wanted: Result<LineCount, LineFault>,
-    status: u8,
-) {
-    let mut output = Vec::new(rt.alloc());
-    let answer = mode.reply(rt, rt.alloc(), input, &mut output);
-    assert_same(rt, &(answer, line_status(&answer)), &(wanted, status));
-    assert_same(
-        rt,
-        &(output.is_empty(), input.calls <= reads),
-        &(true, true),
-    );
-}
+/// The greatest input has 8,388,608 bytes: the answer to it and to one of a byte more, and the statuses.
+static LIMITS: [(usize, Result<LineCount, LineFault>, u8); 2] = [
+    (
+        8_388_608,
+        Ok(LineCount {
+            answered: 0,
+            refused: 0,
+        }),
+        0,
+    ),
+    (8_388_609, Err(LineFault::InputTooLong), 1),
+];
 
-/// Asserts that the greatest input is read, and one byte more refused, by a reader that gives a byte so often at each call.
-fn assert_limit(
-    rt: &(impl Abort + AllocGlobal + Threads + Sync),
-    mode: Mode,
+/// Whether the greatest input is read, and one byte more refused, by a reader that gives a byte so often at each call, nothing is written,
+/// and there are no more than so many reads.
+fn is_within(
+    rt: &(impl AllocGlobal + Threads + Sync),
+    in_threads: bool,
     byte: u8,
     most: usize,
     reads: usize,
-) {
-    let none = Ok(LineCount {
-        answered: 0,
-        refused: 0,
-    });
-    let too_long = Err(LineFault::InputTooLong);
-    for (left, wanted, status) in [(GREATEST, none, 0), (GREATEST + 1, too_long, 1)] {
+) -> bool {
+    let mut is = true;
+    for (left, wanted, status) in &LIMITS {
         let mut input = Bytes {
             byte,
-            left,
+            left: *left,
             most,
             calls: 0,
         };
-        assert_answer(rt, mode, &mut input, reads, wanted, status);
+        let mut output = Vec::new(rt.alloc());
+        let answer = if in_threads {
+            line_mode_in_threads(rt, rt.alloc(), &mut input, &mut output)
+        } else {
+            line_mode(rt.alloc(), &mut input, &mut output)
+        };
+        let is_answer = answer == *wanted && line_status(&answer) == *status;
+        is = is && is_answer && output.is_empty() && input.calls <= reads;
     }
+    is
 }
 
 /// However few bytes a call gives: here one.
 #[test]
 fn line_feeds_stop_past_the_limit(rt: HostRuntime) {
-    assert_limit(&rt, Mode::Alone, b'\n', 1, GREATEST + 1);
+    assert_holds(
+        &rt,
+        is_within(&rt, false, b'\n', 1, 8_388_609),
+        "line feeds",
+    );
 }
 
-/// No more often than whole blocks ask for.
+/// No more often than whole blocks of 65,536 bytes ask for.
 #[test]
 fn stops_past_the_limit(rt: HostRuntime) {
-    assert_limit(&rt, Mode::InThreads, b' ', 1_000_000, GREATEST / BLOCK + 1);
+    assert_holds(&rt, is_within(&rt, true, b' ', 1_000_000, 129), "spaces");
 }
 
-/// Adds a text so many times.
-fn add_times(line: &mut Vec<u8>, text: &[u8], times: usize) -> Result<(), AllocError> {
-    for _ in 0..times {
-        line.extend_from_slice(text)?;
+/// A text, and another that comes so many times after it.
+type Part = (&'static [u8], &'static [u8], usize);
+
+/// The parts one after the other, and an end.
+fn text_of(alloc: Global, parts: &[Part], end: &[u8]) -> Result<Vec<u8>, AllocError> {
+    let mut text = Vec::new(alloc);
+    for (front, piece, times) in parts {
+        text.extend_from_slice(front)?;
+        for _ in 0..*times {
+            text.extend_from_slice(piece)?;
+        }
     }
-    Ok(())
-}
-
-/// Adds a place and its bytes of the greatest length, all the same.
-fn add_fragment(line: &mut Vec<u8>, place: &[u8], byte: &[u8]) -> Result<(), AllocError> {
-    line.extend_from_slice(place)?;
-    add_times(line, byte, 65_536)
-}
-
-/// Fragments of the greatest length: A5 + 5A + FF is 00 at each position.
-#[test]
-fn answers_long_fragments(rt: HostRuntime) -> Result<(), AllocError> {
-    let line = long_line(rt.alloc())?;
-    let text = long_reply(rt.alloc())?;
-    assert_replies(&rt, &line, &text, 1, 0);
-    Ok(())
-}
-
-fn long_line(alloc: Global) -> Result<Vec<u8>, AllocError> {
-    let mut line = Vec::from_slice(alloc, b"a x0 65536")?;
-    add_fragment(&mut line, b" x1=", b"A5")?;
-    add_fragment(&mut line, b" x2=", b"5a")?;
-    add_fragment(&mut line, b" px=", b"fF")?;
-    Ok(line)
-}
-
-fn long_reply(alloc: Global) -> Result<Vec<u8>, AllocError> {
-    let mut text = Vec::from_slice(alloc, b"rebuilt ")?;
-    add_times(&mut text, b"00", 65_536)?;
-    text.push(b'\n')?;
+    text.extend_from_slice(end)?;
     Ok(text)
 }
 
-static LONG_LINES: [(&[u8], &[u8], usize, &[u8]); 8] = [
-    (b"a x0 1", b" x1=02", 300, b"refused E3\n"),
-    (b"a x0 1 x2=03", b" x1=", 100_000, b"refused E3\n"),
-    (b"a x0 1 x1=", b"02", 65_537, b"refused E5\n"),
-    (b"x0 x0 1", b" x0", 100_000, b"refused E22\n"),
-    (b"a x0 ", b"1", 100_000, b"refused E22\n"),
-    (b"a ", b" ", 1_000_000, b"refused E22\n"),
-    (b"", b"a", 1_000_000, b"refused E22\n"),
-    (b"a x0 1", b"\0", 1_000_000, b"refused E22\n"),
+/// The parts of lines, and of the replies without the last line feed, and how many lines are answered and refused.
+type Long = (&'static [Part], &'static [Part], u64, u64);
+
+static LONG: [Long; 11] = [
+    // Fragments of the greatest length: A5 + 5A + FF is 00 at each position.
+    (
+        &[
+            (b"a x0 65536 x1=", b"A5", 65_536),
+            (b" x2=", b"5a", 65_536),
+            (b" px=", b"fF", 65_536),
+        ],
+        &[(b"rebuilt ", b"00", 65_536)],
+        1,
+        0,
+    ),
+    // Lines that are refused.
+    (
+        &[(b"a x0 1", b" x1=02", 300)],
+        &[(b"refused E3", b"", 0)],
+        0,
+        1,
+    ),
+    (
+        &[(b"a x0 1 x2=03", b" x1=", 100_000)],
+        &[(b"refused E3", b"", 0)],
+        0,
+        1,
+    ),
+    (
+        &[(b"a x0 1 x1=", b"02", 65_537)],
+        &[(b"refused E5", b"", 0)],
+        0,
+        1,
+    ),
+    (
+        &[(b"x0 x0 1", b" x0", 100_000)],
+        &[(b"refused E22", b"", 0)],
+        0,
+        1,
+    ),
+    (
+        &[(b"a x0 ", b"1", 100_000)],
+        &[(b"refused E22", b"", 0)],
+        0,
+        1,
+    ),
+    (
+        &[(b"a ", b" ", 1_000_000)],
+        &[(b"refused E22", b"", 0)],
+        0,
+        1,
+    ),
+    (&[(b"", b"a", 1_000_000)], &[(b"refused E22", b"", 0)], 0, 1),
+    (
+        &[(b"a x0 1", b"\0", 1_000_000)],
+        &[(b"refused E22", b"", 0)],
+        0,
+        1,
+    ),
+    // A line that goes on past the middle of a long input, to its end or almost.
+    (
+        &[(b"a x0 1\n", b"a", 300_000)],
+        &[(b"several\nrefused E22", b"", 0)],
+        1,
+        1,
+    ),
+    (
+        &[(b"a x0 1\n", b"a", 300_000), (b"\na x0 1", b"", 0)],
+        &[(b"several\nrefused E22\nseveral", b"", 0)],
+        2,
+        1,
+    ),
 ];
 
-/// Long lines that are refused: each repeats a piece after its front many times.
 #[test]
-fn refuses_long_lines(rt: HostRuntime) -> Result<(), AllocError> {
-    for (front, piece, times, reply) in &LONG_LINES {
-        let mut line = Vec::from_slice(rt.alloc(), front)?;
-        add_times(&mut line, piece, *times)?;
-        assert_replies(&rt, &line, reply, 0, 1);
+fn answers_and_refuses_long_lines_and_cuts_none(rt: HostRuntime) -> Result<(), AllocError> {
+    for (lines, replies, answered, refused) in &LONG {
+        let input = text_of(rt.alloc(), lines, b"")?;
+        let text = text_of(rt.alloc(), replies, b"\n")?;
+        assert_replies(&rt, &input, &text, *answered, *refused);
     }
     Ok(())
 }

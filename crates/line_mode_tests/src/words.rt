@@ -1,12 +1,51 @@
 //! The arguments of the program.
-use crate::asserting::assert_same;
+use crate::asserting::assert_holds;
 use command_line::{Words, WordsFault, read_words};
 use std::alloc::{AllocError, Global};
 use std::process::Abort;
 
 /// What arguments ask for.
-fn read(alloc: Global, arguments: &[&str]) -> Result<Words, WordsFault> {
-    read_words(alloc, strings(alloc, arguments)?.as_slice())
+enum Asked {
+    Lines,
+    // To serve the folder `a` into the folder `b`, with so many workers and a queue of that capacity.
+    Farm(usize, usize),
+    // A text.
+    Text(&'static str),
+    // Nothing: they are a mistake that is reported by this text.
+    Mistake(&'static str),
+    // Nothing: they are a mistake.
+    Refusal,
+}
+
+/// Whether it is this that arguments ask for. They ask for nothing else, and are refused for nothing else: with another name among these
+/// this doesn't compile.
+fn is_asked(read: &Result<Words, WordsFault>, asked: &Asked) -> bool {
+    match read {
+        Ok(Words::Lines) => matches!(asked, Asked::Lines),
+        Ok(
+            Words::Farm {
+                input,
+                output,
+                workers,
+                queue,
+            },
+        ) => match asked {
+            Asked::Farm(threads, room) => {
+                input.as_str() == "a"
+                    && output.as_str() == "b"
+                    && workers == threads
+                    && queue == room
+            }
+            _ => false,
+        },
+        Ok(Words::Help(shown)) => matches!(asked, Asked::Text(text) if shown.as_str() == *text),
+        Err(WordsFault::Usage(shown)) => match asked {
+            Asked::Mistake(text) => shown.as_str() == *text,
+            Asked::Refusal => true,
+            _ => false,
+        },
+        Err(WordsFault::OutOfMemory) => false,
+    }
 }
 
 fn strings(alloc: Global, arguments: &[&str]) -> Result<Vec<String>, AllocError> {
@@ -17,156 +56,113 @@ fn strings(alloc: Global, arguments: &[&str]) -> Result<Vec<String>, AllocError>
     Ok(strings)
 }
 
-/// Asserts that arguments ask to serve the folder `a` into the folder `b`, with so many workers and a queue of that capacity.
-fn assert_farm(rt: &(impl Abort + AllocGlobal), arguments: &[&str], wanted: (usize, usize)) {
-    match read(rt.alloc(), arguments) {
-        Ok(
-            Words::Farm {
-                input,
-                output,
-                workers,
-                queue,
-            },
-        ) => {
-            assert_between(rt, input.as_str(), output.as_str());
-            assert_same(rt, &(workers, queue), &wanted);
-        }
-        _ => assert_same(rt, &arguments, &[].as_slice()),
-    }
+fn read(alloc: Global, arguments: &[&str]) -> Result<Words, WordsFault> {
+    read_words(alloc, strings(alloc, arguments)?.as_slice())
 }
 
-/// Asserts that these are the two folders.
-fn assert_between(rt: &impl Abort, input: &str, output: &str) {
-    assert!(rt; input == "a" && output == "b", "{input} {output}");
+/// Asserts that arguments ask for this.
+fn assert_asked(rt: &(impl Abort + AllocGlobal), arguments: &[&str], asked: &Asked) {
+    let is = is_asked(&read(rt.alloc(), arguments), asked);
+    assert_holds(rt, is, arguments);
 }
 
-/// Asserts that the text that arguments have shown is this.
-fn assert_shown(rt: &impl Abort, arguments: &[&str], shown: &str, text: &str) {
-    assert!(rt; shown == text, "{arguments:?}: {shown}");
-}
-
-/// Asserts that arguments are a mistake that is reported by this text.
-fn assert_mistaken(rt: &(impl Abort + AllocGlobal), arguments: &[&str], text: &str) {
-    match read(rt.alloc(), arguments) {
-        Err(WordsFault::Usage(shown)) => assert_shown(rt, arguments, shown.as_str(), text),
-        _ => assert_shown(rt, arguments, "no mistake", text),
-    }
-}
-
-/// Asserts that arguments ask for this text.
-fn assert_text(rt: &(impl Abort + AllocGlobal), arguments: &[&str], text: &str) {
-    match read(rt.alloc(), arguments) {
-        Ok(Words::Help(shown)) => assert_shown(rt, arguments, shown.as_str(), text),
-        _ => assert_shown(rt, arguments, "no text", text),
-    }
-}
-
-#[test]
-fn no_arguments_are_line_mode(rt: HostRuntime) {
-    assert!(&rt; matches!(read(rt.alloc(), &[]), Ok(Words::Lines)));
-}
-
-/// Arguments, and the numbers of workers and the capacities of the queue that they ask for. Options may be anywhere. Numbers out of a
-/// farm's limits are read; the settings refuse them.
-const FARMS: &[(&[&str], (usize, usize))] = &[
-    (&["farm", "a", "b"], (4, 16)),
-    (&["farm", "a", "b", "--workers", "2"], (2, 16)),
-    (&["farm", "a", "b", "--queue", "3"], (4, 3)),
+/// Arguments, and what they ask for. Options may be anywhere. Numbers out of a farm's limits are read; the settings refuse them.
+static ARGUMENTS: [(&[&str], Asked); 24] = [
+    (&[], Asked::Lines),
+    (&["farm", "a", "b"], Asked::Farm(4, 16)),
+    (&["farm", "a", "b", "--workers", "2"], Asked::Farm(2, 16)),
+    (&["farm", "a", "b", "--queue", "3"], Asked::Farm(4, 3)),
     (
         &["farm", "a", "b", "--workers", "0", "--queue", "1"],
-        (0, 1),
+        Asked::Farm(0, 1),
     ),
-    (&["farm", "a", "b", "--queue", "65535"], (4, 65535)),
+    (
+        &["farm", "a", "b", "--queue", "65535"],
+        Asked::Farm(4, 65535),
+    ),
     (
         &["farm", "a", "b", "--workers", "7", "--queue", "9"],
-        (7, 9),
+        Asked::Farm(7, 9),
     ),
     (
         &["farm", "--queue", "9", "--workers", "7", "a", "b"],
-        (7, 9),
+        Asked::Farm(7, 9),
     ),
-    (&["farm", "--workers=7", "a", "--queue=9", "b"], (7, 9)),
+    (
+        &["farm", "--workers=7", "a", "--queue=9", "b"],
+        Asked::Farm(7, 9),
+    ),
     (
         &["farm", "a", "--workers", "+7", "b", "--queue=009"],
-        (7, 9),
+        Asked::Farm(7, 9),
     ),
     (
         &["farm", "--workers=7", "--queue=9", "--", "a", "b"],
-        (7, 9),
+        Asked::Farm(7, 9),
     ),
-];
-
-#[test]
-fn farms_have_defaults_and_options(rt: HostRuntime) {
-    for (arguments, wanted) in FARMS {
-        assert_farm(&rt, arguments, *wanted);
-    }
-}
-
-const MISTAKES: &[(&[&str], &str)] = &[
     (
         &["farm", "a"],
-        "error: the following required arguments were not provided:\n  <OUT>\n\n\
+        Asked::Mistake(
+            "error: the following required arguments were not provided:\n  <OUT>\n\n\
 Usage: rebuild farm [OPTIONS] <IN> <OUT>\n\nFor more information, try '--help'.\n",
+        ),
     ),
     (
         &["farm", "a", "b", "--queue", "65536"],
-        "error: --workers takes a number from 1 to 16, and --queue one from 1 to 1024\n\nFor more information, try '--help'.\n",
+        Asked::Mistake(
+            "error: --workers takes a number from 1 to 16, and --queue one from 1 to 1024\n\nFor more information, try '--help'.\n",
+        ),
     ),
     (
         &["shelf"],
-        "error: unrecognized subcommand 'shelf'\n\n  tip: a similar subcommand exists: 'help'\n\n\
+        Asked::Mistake(
+            "error: unrecognized subcommand 'shelf'\n\n  tip: a similar subcommand exists: 'help'\n\n\
 Usage: rebuild [COMMAND]\n\nFor more information, try '--help'.\n\
 The commands for stores, such as repair, are those of rebuild-store.\n",
+        ),
     ),
     (
         &["--"],
-        "error: rebuild takes the command farm, or no arguments at all\n\nFor more information, try '--help'.\n",
+        Asked::Mistake(
+            "error: rebuild takes the command farm, or no arguments at all\n\nFor more information, try '--help'.\n",
+        ),
     ),
+    (&[""], Asked::Refusal),
+    (&["farm"], Asked::Refusal),
+    (&["farm", "a", "b", "c"], Asked::Refusal),
+    (&["farm", "a", "b", "--workers"], Asked::Refusal),
+    (&["farm", "a", "b", "--workers", "-1"], Asked::Refusal),
+    (&["farm", "a", "b", "--workers", "two"], Asked::Refusal),
+    (
+        &["farm", "a", "b", "--workers", "1", "--workers", "1"],
+        Asked::Refusal,
+    ),
+    (&["farm", "a", "b", "--threads", "1"], Asked::Refusal),
+    (&["Farm", "a", "b"], Asked::Refusal),
 ];
 
 #[test]
-fn mistakes_are_reported_with_a_hint(rt: HostRuntime) {
-    for (arguments, text) in MISTAKES {
-        assert_mistaken(&rt, arguments, text);
+fn arguments_ask_for_lines_or_a_farm_or_are_mistakes(rt: HostRuntime) {
+    for (arguments, asked) in &ARGUMENTS {
+        assert_asked(&rt, arguments, asked);
     }
 }
 
-const REFUSED: &[&[&str]] = &[
-    &[""],
-    &["farm"],
-    &["farm", "a", "b", "c"],
-    &["farm", "a", "b", "--workers"],
-    &["farm", "a", "b", "--workers", "-1"],
-    &["farm", "a", "b", "--workers", "two"],
-    &["farm", "a", "b", "--workers", "1", "--workers", "1"],
-    &["farm", "a", "b", "--threads", "1"],
-    &["Farm", "a", "b"],
-];
-
-#[test]
-fn other_mistakes_are_refused(rt: HostRuntime) {
-    for arguments in REFUSED {
-        let is_refused = matches!(read(rt.alloc(), arguments), Err(WordsFault::Usage(_)));
-        assert!(&rt; is_refused, "{arguments:?}");
-    }
-}
-
-const SHOWN: &[(&[&str], &str)] = &[
-    (&["--version"], "rebuild 0.1.0\n"),
-    (&["--help"], HELP),
-    (&["-h"], HELP),
-    (&["help"], HELP),
-    (&["farm", "--help"], FARM_HELP),
-    (&["farm", "-h"], FARM_HELP),
-    (&["help", "farm"], FARM_HELP),
-    (&["farm", "a", "--help", "b"], FARM_HELP),
+static SHOWN: [(&[&str], Asked); 8] = [
+    (&["--version"], Asked::Text("rebuild 0.1.0\n")),
+    (&["--help"], Asked::Text(HELP)),
+    (&["-h"], Asked::Text(HELP)),
+    (&["help"], Asked::Text(HELP)),
+    (&["farm", "--help"], Asked::Text(FARM_HELP)),
+    (&["farm", "-h"], Asked::Text(FARM_HELP)),
+    (&["help", "farm"], Asked::Text(FARM_HELP)),
+    (&["farm", "a", "--help", "b"], Asked::Text(FARM_HELP)),
 ];
 
 #[test]
 fn help_and_version_are_shown(rt: HostRuntime) {
-    for (arguments, text) in SHOWN {
-        assert_text(&rt, arguments, text);
+    for (arguments, asked) in &SHOWN {
+        assert_asked(&rt, arguments, asked);
     }
 }
 
