@@ -1,4 +1,5 @@
 pub mod Digests
+pub mod Encoded
 pub mod HaveGot
 pub mod Names
 pub mod Order

@@ -3,3 +3,4 @@ pub mod Names
 pub mod Own
 pub mod Replaced
 pub mod Taken
+pub mod Encoded

@@ -1,6 +1,7 @@
 //! Encoding a file into a store: the fragments of its stripe, and its description.
 pub(crate) mod descriptions;
 pub(crate) mod fragments;
+mod ordering;
 pub(crate) mod placing;
 mod replacing;
 pub(crate) mod source;
@@ -9,10 +10,10 @@ mod stripe_files;
 pub(crate) mod subfolders;
 pub(crate) mod sums;
 
-use descriptions::place_descriptions;
 use fragments::{Encoded, make_encoded, source_digest};
 use lrc_code::{Code, Place};
-use placing::{discard_all, is_there_already, place_fragments};
+use ordering::place_stripe;
+use placing::{discard_all, is_there_already};
 use replacing::{finish_replacing, replace};
 use source::{is_changed, no_name, regular, stripe_name};
 use std::fs::Metadata;
@@ -20,11 +21,12 @@ use std::thread::Threads;
 use store_faults::{FileFault, fragment_name, source_fault};
 use store_files::{Target, is_staged, is_there};
 use store_folder::{
-    DESCRIPTION, Described, Digest, KEPT, Links, is_ambiguous, open_fragment, path_in,
-    read_description,
+    DESCRIPTION, Described, Digest, KEPT, Links, SystemFolder, is_ambiguous, open_fragment,
+    path_in, read_description,
 };
 use store_progress::{CountedSource, Progress, refuse_over_limit};
 use store_repair::fragment_length;
+use stripe_files::StripeFiles;
 use subfolders::make_folders;
 
 /// A file that is encoded.
@@ -98,30 +100,45 @@ pub(crate) fn encode_as<R: Threads + Sync>(
 ) -> Result<(), FileFault> {
     let alloc = rt.alloc();
     let length = given.before.len();
-    let names = target.names(alloc, name)?;
+    let names = StripeFiles::of(alloc, target, name)?;
     let fragment_bytes = fragment_length(target.code, length as usize);
     refuse_over_limit(rt, name, fragment_bytes as u64)?;
     let Encoded { digest, made } = make_encoded(threads, rt, target, name, given)?;
+    let files = &mut SystemFolder::new(rt);
     let after = match regular(rt, given.path) {
         Ok(after) => after,
         Err(fault) => {
-            discard_all(rt, target.folder, made)?;
+            discard_all(rt, files, target.folder, made)?;
             return Err(fault);
         }
     };
     if is_changed(given.before, &after) {
-        discard_all(rt, target.folder, made)?;
+        discard_all(rt, files, target.folder, made)?;
         let path = given.path;
         let what = format!(in alloc; "{path}: changed while it was read")?;
         return Err(FileFault::Refused { what });
     }
-    place_fragments(rt, target, names.as_slice(), fragment_bytes, made)?;
     let described = Described {
         length,
         digest,
         code: target.code,
     };
-    place_descriptions(rt, target, name, &described)
+    let text = match described.text(alloc) {
+        Ok(text) => text,
+        Err(error) => {
+            discard_all(rt, files, target.folder, made)?;
+            return Err(error.into());
+        }
+    };
+    place_stripe(
+        rt,
+        files,
+        target,
+        &names,
+        fragment_bytes,
+        made,
+        text.as_str(),
+    )
 }
 
 /// Refuses a file the names of whose fragments would be those of something else.

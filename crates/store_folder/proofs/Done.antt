@@ -13,11 +13,13 @@ use Rattle.folders.specs.Files.{IsIn}
 use Rattle.folders.specs.Disk.{HasWhole, IsOnDisk}
 use Rattle.folders.specs.Kept.{Keeps}
 use Rattle.folders.proofs.Staying.{has_whole_over, on_disk_over, refused_over, settled}
-use Rattle.std.specs.Prelude.{IsSome, IsSomeAnd}
+use Rattle.std.specs.Prelude.{IsOkAnd, IsSome, IsSomeAnd}
 use Rattle.store_folder.specs.declared.site.Site.{Site}
 use Rattle.store_folder.specs.Done.{HasFolderOf, HaveFoldersOf, IsDue, IsNamed, IsSettled}
 use Rattle.store_folder.specs.Kept.{IsTemporary, KeepsEach}
+use Rattle.store_folder.specs.Placed.{IsPlacedAt, outcome_by}
 use Rattle.store_folder.specs.Stays.{lasts}
+use Rattle.stores.specs.declared.store.Placed.{Placed as PlacedName}
 use Rattle.store_folder.specs.Temporary.{is_temporary}
 use Rattle.stores.specs.Kept.{StaysOver}
 
@@ -106,6 +108,26 @@ linked path (Some bytes) (Ok x) first old new folders given same has keeps lasti
     old new lasting (λ h. h) keeps (inr (subst (HasWhole path bytes) (sym same) given, has)))
 linked path written (Err e) first old new folders given same has keeps lasting =
     inl (refused_over path keeps.more old new keeps.are (subst (WasRefused path) (sym same) given))
+
+-- a file that was to get a path, of which the outcome is known, and then calls that take nothing away
+pub placed_at : {E : Type 0} (path : List ℕ) (written : Option (List ℕ)) (answer : Result (Unit {0}) E) (is : PlacedName)
+    (old new : List Answered) → IsSome written → MatchResult answer (λ _. HasPath path written old) (λ _. WasRefused path old)
+    → is ≡ outcome_by answer → KeepsEach old new → is_temporary path ≡ false → IsPlacedAt path written new is
+placed_at path None (Ok x) is old new some given so keeps lasting = absurd (cc)
+placed_at path (Some bytes) (Ok x) is old new some given so keeps lasting = subst (IsPlacedAt path (Some bytes) new) (sym so)
+    (has_whole_over IsTemporary path bytes (lasts path lasting) keeps.more old new keeps.are keeps.takes given)
+placed_at path written (Err e) is old new some given so keeps lasting = subst (IsPlacedAt path written new) (sym so)
+    (refused_over path keeps.more old new keeps.are given)
+
+pub outcome_at : {W E F : Type 0} (answer : W → Result (Unit {0}) F) (path : List ℕ) (written : Option (List ℕ)) (tried : Result W E)
+    (outcome : Result PlacedName E) (old new : List Answered) → IfOk tried (λ _. IsSome written)
+    → IfOk tried (λ placed. MatchResult (answer placed) (λ _. HasPath path written old) (λ _. WasRefused path old))
+    → IfOk outcome (λ is. IsOkAnd tried (λ placed. is ≡ outcome_by (answer placed))) → KeepsEach old new → is_temporary path ≡ false
+    → IfOk outcome (IsPlacedAt path written new)
+outcome_at answer path written tried (Err e) old new some given so keeps lasting = tt
+outcome_at answer path written (Ok placed) (Ok is) old new some given so keeps lasting =
+    placed_at path written (answer placed) is old new some given so keeps lasting
+outcome_at answer path written (Err e) (Ok is) old new some given so keeps lasting = absurd so
 
 -- bytes that are there
 pub some_due : (Refused : Type 0) (written : Option (List ℕ)) (P : List ℕ → Type 0) → IsSome written → Refused ⊎ IfSome written P

@@ -25,7 +25,7 @@ synced_since bytes ((sync_folder path, ok) ∷ more) old was = synced_since byte
 synced_since bytes ((same_file path other, ok) ∷ more) old was = synced_since bytes more old was
 synced_since bytes ((absent path, ok) ∷ more) old was = synced_since bytes more old was
 
-later : (bytes : List ℕ) (more old new : List Answered) → new ≡ more ++ old → WasSynced bytes old → WasSynced bytes new
+pub later : (bytes : List ℕ) (more old new : List Answered) → new ≡ more ++ old → WasSynced bytes old → WasSynced bytes new
 later bytes more old new are was = subst (WasSynced bytes) (sym are) (synced_since bytes more old was)
 
 -- after what kept all but what is given, and a call that gives more of it

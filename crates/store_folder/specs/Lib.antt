@@ -8,3 +8,4 @@ pub mod Replaced
 pub mod Stays
 pub mod Temporary
 pub mod Written
+pub mod Placed

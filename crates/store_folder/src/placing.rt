@@ -1,12 +1,15 @@
 //! Putting new files in their places. A file has no name that a fragment can have until it is whole and on the disk.
-ghost use Rattle.std.specs.Prelude.{◌≡◌, IfOk, IsSome, MatchResult, None, OnOk, true, string_bytes};
+ghost use Rattle.std.specs.Prelude.{◌≡◌, [], IfOk, IsOkAnd, IsSome, MatchResult, OnOk, Some, false, true, string_bytes};
 ghost use Rattle.folders.specs.Placed.{HasPath, WasRefused};
-ghost use Rattle.store_folder.specs.Kept.{GivesOne};
+ghost use Rattle.store_folder.specs.Kept.{GivesOne, KeepsEach};
+ghost use Rattle.store_folder.specs.Placed.{IsPlacedAt, content_of, outcome_by};
 ghost use Rattle.store_folder.specs.Written.{PutsOne};
 ghost use Rattle.store_folder.specs.Temporary.{is_temporary};
 
 use crate::unfinished::{Unfinished, create_unfinished};
-use folders::{Folder, NewFile as _, Rights, SystemFolder, SystemNew, place, place_over};
+use folders::{
+    Folder, NewFile as _, Rights, SystemFolder, SystemNew, place, place_over, remove_temporary,
+};
 use std::alloc::Global;
 use std::fs::{self, Metadata};
 use std::io::{self, ErrorKind};
@@ -24,8 +27,8 @@ const MOST_RIGHTS: u32 = 0o666;
 
 /// A new file that gets a name in a store, or beside one.
 #[derive(Drop)]
-pub struct NewFile {
-    unfinished: Unfinished<SystemNew>,
+pub struct NewFile<N: folders::NewFile = SystemNew> {
+    pub(crate) unfinished: Unfinished<N>,
 }
 
 /// Gives a file the owner and the group of another one, by what is said of that, and then its rights to read and write. Who may not give it
@@ -40,8 +43,8 @@ pub(crate) fn take_after<N: folders::NewFile>(file: &N, rights: &Rights) -> io::
     Ok(true)
 }
 
-impl NewFragment for NewFile {
-    ghost shown = { λ _. None };
+impl<N: folders::NewFile> NewFragment for NewFile<N> {
+    ghost shown = { λ f. N.written f.unfinished.file };
 
     fn append(&mut self, bytes: &[u8]) -> io::Result<()> {
         self.unfinished.append(bytes)
@@ -51,9 +54,7 @@ impl NewFragment for NewFile {
 impl NewFile {
     /// A new file in a folder, with the rights that the user's mask leaves it.
     pub fn create_as_user(rt: &HostRuntime, alloc: Global, folder: &str) -> io::Result<NewFile> {
-        Ok(NewFile {
-            unfinished: create_unfinished(rt, &mut SystemFolder::new(rt), folder, "", OPEN)?,
-        })
+        create_new(rt, &mut SystemFolder::new(rt), folder)
     }
 
     /// A new file in a folder, which nobody but its user may read.
@@ -81,16 +82,54 @@ impl NewFile {
 
     /// Removes the file.
     pub fn discard(self, rt: &HostRuntime) -> io::Result<()> {
-        fs::remove_file(rt, self.unfinished.made_at.as_str())
+        discard_new(&mut SystemFolder::new(rt), self)
     }
 }
 
-/// Writes a file to the disk and gives it the name at a path, under which nothing may be.
-pub fn place_new(rt: &HostRuntime, new: NewFile, path: &str) -> io::Result<Placed> {
-    let mut files = SystemFolder::new(rt);
-    let Tried { made_at, placed } = try_path(&mut files, new.unfinished, path);
-    files.remove(made_at.as_str())?;
-    match placed?.answer {
+/// A new file in a folder, with the rights that the user's mask leaves it.
+pub fn create_new<F: Folder>(
+    rt: &HostRuntime,
+    files: &mut F,
+    folder: &str,
+) -> io::Result<NewFile<F::New>>
+    ensures whenever { KeepsEach (F.calls files.old) (F.calls files.new) }
+    ensures empty { IfOk result (λ new. content_of new ≡ Some []) }
+{
+    Ok(NewFile {
+        unfinished: create_unfinished(rt, files, folder, "", OPEN)?,
+    })
+}
+
+/// Removes a new file, which gets no name.
+pub fn discard_new<F: Folder>(files: &mut F, new: NewFile<F::New>) -> io::Result<()>
+    ensures { KeepsEach (F.calls files.old) (F.calls files.new) }
+{
+    remove_temporary(files, new.unfinished.made_at.as_str())
+}
+
+/// Writes a file to the disk and gives it the name at a path, if nothing is there. Whenever that ends, each path but temporary ones has
+/// what it had, or, if it had nothing and is this one, all the bytes of the file. The name may still have to be written to the disk.
+///
+/// # Errors
+///
+/// Bytes of the file are missing, or it couldn't be written to the disk, get the name, or lose the one that it was made at.
+pub fn place_new<F: Folder>(files: &mut F, new: NewFile<F::New>, path: &str) -> io::Result<Placed>
+    ensures whenever { GivesOne path.now (content_of new) (F.calls files.old) (F.calls files.new) }
+    ensures placed { is_temporary path.now ≡ false
+        → IfOk result (IsPlacedAt path.now (content_of new) (F.calls files.new)) }
+{
+    let Tried { made_at, placed } = try_path(files, new.unfinished, path);
+    match remove_temporary(files, made_at.as_str()) {
+        Ok(()) => outcome_of(placed),
+        Err(error) => Err(error),
+    }
+}
+
+/// What became of a file that was to get a path, by what the system answered.
+fn outcome_of<W: Drop>(tried: io::Result<folders::Placed<W>>) -> io::Result<Placed>
+    ensures { IfOk result (λ outcome. IsOkAnd tried (λ placed. outcome ≡ outcome_by placed.answer)) }
+{
+    match tried?.answer {
         Ok(()) => Ok(Placed::Placed),
         Err(error) if error.kind() == ErrorKind::AlreadyExists => Ok(Placed::IsThere),
         Err(error) => Err(error),
@@ -114,6 +153,7 @@ pub(crate) fn try_path<F: Folder>(
     ensures whenever { GivesOne path.now (F.New.written new.file) (F.calls files.old) (F.calls files.new) }
     ensures given { IfOk result.placed (λ placed. MatchResult placed.answer (λ _. HasPath path.now (F.New.written new.file)
         (F.calls files.new)) (λ _. WasRefused path.now (F.calls files.new))) }
+    ensures some { IfOk result.placed (λ _. IsSome (F.New.written new.file)) }
 {
     let whole = new.refuse_part();
     let Unfinished { file, made_at, .. } = new;
@@ -132,6 +172,7 @@ fn place_whole<F: Folder>(
     ensures whenever { GivesOne path.now (F.New.written file) (F.calls files.old) (F.calls files.new) }
     ensures given { IfOk result (λ placed. MatchResult placed.answer (λ _. HasPath path.now (F.New.written file) (F.calls files.new))
         (λ _. WasRefused path.now (F.calls files.new))) }
+    ensures some { IfOk result (λ _. IsSome (F.New.written file)) }
 {
     match whole {
         Ok(()) => place(files, file, path),

@@ -15,20 +15,20 @@ use stores::NameFault;
 
 /// The folders in which names were given since the last time that these were written to the disk.
 #[derive(Drop)]
-pub(crate) struct Touched {
-    pub(crate) folders: Vec<String>,
+pub struct Touched {
+    pub folders: Vec<String>,
 }
 
 impl Touched {
     /// No folders.
-    pub(crate) fn new(alloc: Global) -> Touched {
+    pub fn new(alloc: Global) -> Touched {
         Touched {
             folders: Vec::new(alloc),
         }
     }
 
     /// Notes that a name was given in a folder.
-    pub(crate) fn note(&mut self, alloc: Global, folder: &str) -> Result<(), AllocError>
+    pub fn note(&mut self, alloc: Global, folder: &str) -> Result<(), AllocError>
         ensures had { (path : List ℕ) → HasFolderOf path self.old.folders.items → HasFolderOf path self.new.folders.items }
         ensures noted { IfOk result (λ _. (path : List ℕ) → IsIn folder.now path → HasFolderOf path self.new.folders.items) }
     {
@@ -39,7 +39,7 @@ impl Touched {
     }
 
     /// Writes the names in these folders to the disk.
-    pub(crate) fn sync<F: Folder>(&mut self, files: &mut F) -> Result<(), NameFault>
+    pub fn sync<F: Folder>(&mut self, files: &mut F) -> Result<(), NameFault>
         ensures whenever { KeepsEach (F.calls files.old) (F.calls files.new) }
         ensures done { OnOk result ((path bytes : List ℕ) → is_temporary path ≡ false
             → IsDue self.old.folders.items (F.calls files.old) path bytes → IsOnDisk path bytes (F.calls files.new)) }

@@ -9,8 +9,8 @@ use std::fs::{self, Metadata};
 use std::io::{self, ErrorKind};
 use store_faults::{Copies, CopyFinding, CopyReason, Descriptions, FoundCopy};
 use store_folder::{
-    Described, KEPT, NewFile, Placed, Site, folder_of, path_in, place_again, place_new,
-    refuse_linked_folders, sync_folder,
+    Described, KEPT, NewFile, Placed, Site, SystemFolder, folder_of, path_in, place_again,
+    place_new, refuse_linked_folders, sync_folder,
 };
 use store_repair::NewFragment;
 
@@ -187,7 +187,7 @@ fn make(
     let placed = if replaces && site.target == site.folder {
         replace(rt, file, path)?
     } else {
-        place_new(rt, file, path)?
+        place_new(&mut SystemFolder::new(rt), file, path)?
     };
     sync_folder(rt, folder_of(path))?;
     Ok(placed)

@@ -1,7 +1,7 @@
 //! The file of a report.
 use std::fs::{self, File, Metadata};
 use std::io::{self, ErrorKind, Write};
-use store_folder::{NewFile, Placed, folder_of, place_again, place_new};
+use store_folder::{NewFile, Placed, SystemFolder, folder_of, place_again, place_new};
 use store_progress::allow_file;
 use store_repair::NewFragment;
 
@@ -24,7 +24,7 @@ fn make(rt: &HostRuntime, path: &str, rows: &str) -> io::Result<Placed> {
     allow_file(rt, rows.len() as u64)?;
     let file = NewFile::create_as_user(rt, rt.alloc(), folder_of(path))?;
     let file = filled(rt, file, rows)?;
-    place_new(rt, file, path)
+    place_new(&mut SystemFolder::new(rt), file, path)
 }
 
 /// Replaces a regular file by one with its owner and rights. Where no file can be made beside it, or who runs this can't give it that

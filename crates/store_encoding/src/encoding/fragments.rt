@@ -1,9 +1,13 @@
 //! The fragments of a file, under temporary names, and the digests of both.
-ghost use Rattle.std.specs.Prelude.{◌≡◌, IfOk, length, vec_len};
+ghost use Rattle.std.specs.Prelude.{◌≡◌, [], IfOk, Some, length, vec_len};
 ghost use Rattle.lrc_code.specs.Codes.{tables_of};
+ghost use Rattle.store_folder.specs.Kept.{KeepsEach};
+ghost use Rattle.store_folder.specs.Placed.{content_of};
+ghost use Rattle.store_repair.specs.Mended.{AreEmpty};
 
 use crate::encoding::Given;
 use crate::encoding::placing::{Made, discard_all};
+use folders::Folder;
 use lrc_code::Place;
 use std::alloc::Global;
 use std::io::{self, ErrorKind};
@@ -11,7 +15,8 @@ use std::thread::{Threads, join};
 use store_faults::{FileFault, device, source_fault};
 use store_files::Target;
 use store_folder::{
-    Digest, Links, NewFile, digest_of, digests_of, folder_of, open_fragment, refuse_linked_folders,
+    Digest, Links, NewFile, SystemFolder, create_new, digest_of, digests_of, folder_of,
+    open_fragment, refuse_linked_folders,
 };
 use store_progress::CountedSource;
 use store_repair::{Fragment, MendFault, encode, fragment_length};
@@ -40,7 +45,7 @@ pub(crate) fn make_encoded<R: Threads + Sync>(
     match digest {
         Ok(digest) => Ok(Encoded { digest, made }),
         Err(fault) => {
-            discard_all(rt, target.folder, made)?;
+            discard_all(rt, &mut SystemFolder::new(rt), target.folder, made)?;
             Err(fault)
         }
     }
@@ -108,7 +113,8 @@ fn fill<F: Fragment>(
     source: &F,
     files: &mut [NewFile],
 ) -> Result<Vec<Digest>, FileFault>
-    requires { length files.old ≡ length (tables_of target.now.code).places }
+    requires length { length files.old ≡ length (tables_of target.now.code).places }
+    requires empty { AreEmpty content_of files.old }
 {
     let alloc = rt.alloc();
     let length = given.before.len() as usize;
@@ -122,7 +128,8 @@ fn fill<F: Fragment>(
 /// A new file for each fragment of a stripe, in the folder that the fragment is to be in. Where one is refused, the others are removed
 /// again.
 fn new_files(rt: &HostRuntime, target: &Target<'_>, stripe: &str) -> Result<Vec<NewFile>, FileFault>
-    ensures { IfOk result (λ v. vec_len v ≡ length (tables_of target.now.code).places) }
+    ensures length { IfOk result (λ v. vec_len v ≡ length (tables_of target.now.code).places) }
+    ensures empty { IfOk result (λ v. AreEmpty content_of v.items) }
 {
     let alloc = rt.alloc();
     let places = target.code.places();
@@ -145,12 +152,20 @@ fn new_file_at(
     target: &Target<'_>,
     stripe: &str,
     place: Place,
-) -> Result<NewFile, FileFault> {
+) -> Result<NewFile, FileFault>
+    ensures { IfOk result (λ new. content_of new ≡ Some []) }
+{
     let alloc = rt.alloc();
     let name = target.name_of(alloc, stripe, place)?;
     let path = target.path(alloc, name.as_str())?;
     let folder = folder_of(path.as_str());
-    match new_file(rt, target, name.as_str(), folder) {
+    match new_file(
+        rt,
+        &mut SystemFolder::new(rt),
+        target,
+        name.as_str(),
+        folder,
+    ) {
         Ok(file) => Ok(file),
         Err(error) => Err(device(alloc, folder, unmade(error))),
     }
@@ -208,14 +223,18 @@ fn unmade(error: io::Error) -> io::Error {
 }
 
 /// A new file for the fragment of a name in the store, in the folder that it is to be in.
-pub(crate) fn new_file(
+pub(crate) fn new_file<F: Folder>(
     rt: &HostRuntime,
+    files: &mut F,
     target: &Target<'_>,
     name: &str,
     folder: &str,
-) -> io::Result<NewFile> {
+) -> io::Result<NewFile<F::New>>
+    ensures whenever { KeepsEach (F.calls files.old) (F.calls files.new) }
+    ensures empty { IfOk result (λ new. content_of new ≡ Some []) }
+{
     refuse_linked_folders(rt, target.folder, name, target.links)?;
-    NewFile::create_as_user(rt, rt.alloc(), folder)
+    create_new(rt, files, folder)
 }
 
 /// What the system refused of a file that is encoded from one path, or of its fragments, at the other.

@@ -1,13 +1,21 @@
 //! Giving what was made its name in the store, unless that is taken.
+ghost use Rattle.std.specs.Prelude.{◌≡◌, ◌∷◌, ◌++◌, OnOk, false};
+ghost use Rattle.store_folder.specs.Done.{HaveFoldersOf};
+ghost use Rattle.store_folder.specs.Kept.{GivesOne, KeepsEach};
+ghost use Rattle.store_folder.specs.Placed.{content_of};
+ghost use Rattle.store_folder.specs.Temporary.{is_temporary};
+ghost use Rattle.store_encoding.specs.Encoded.{AreDone, AreThere, GivesEach, IsDueAt, contents_of};
+
+use folders::{Folder, SystemNew};
 use std::io::{self, ErrorKind};
 use store_faults::{FileFault, device};
 use store_files::{Target, digest_at, is_there};
-use store_folder::{Digest, Links, NewFile, Placed, folder_of, place_new, sync_folder};
+use store_folder::{Digest, Links, NewFile, Placed, Touched, discard_new, folder_of, place_new};
 
 /// A new file, whole, and its digest.
 #[derive(Drop)]
-pub(crate) struct Made {
-    pub(crate) file: NewFile,
+pub(crate) struct Made<N: folders::NewFile = SystemNew> {
+    pub(crate) file: NewFile<N>,
     pub(crate) digest: Digest,
 }
 
@@ -28,16 +36,22 @@ pub(crate) fn is_there_already(rt: &HostRuntime, name: &str) -> Result<FileFault
 }
 
 /// Removes new files, all that can be removed.
-pub(crate) fn discard_all(
+pub(crate) fn discard_all<F: Folder>(
     rt: &HostRuntime,
+    files: &mut F,
     folder: &str,
-    made: Vec<Made>,
-) -> Result<(), FileFault> {
+    made: Vec<Made<F::New>>,
+) -> Result<(), FileFault>
+    ensures { KeepsEach (F.calls files.old) (F.calls files.new) }
+{
     let mut done: io::Result<()> = Ok(());
-    for Made { file, .. } in made {
-        done = file.discard(rt).and(done);
+    'made: for one in made {
+        done = discard_new(files, one.file).and(done);
     }
-    done.map_err(|error| device(rt.alloc(), folder, error))
+    match done {
+        Ok(()) => Ok(()),
+        Err(error) => Err(device(rt.alloc(), folder, error)),
+    }
 }
 
 /// What is under the name at a path, beside a file of a length and a digest.
@@ -58,48 +72,95 @@ fn what_is_there(
     }
 }
 
-/// Gives each fragment the name at its index, unless it is there. Where another file has one of the names, none gets its own.
-pub(crate) fn place_fragments(
+/// Gives each fragment the name at its index, unless it is there. Where another file has one of the names, none gets its own. Whenever that
+/// ends, each path but temporary ones has what it had, or, if it had nothing and is that of one of the names, all the bytes of its file.
+/// Once it is done, each name that didn't have its bytes before has them, and each crash leaves them there.
+pub(crate) fn place_fragments<F: Folder>(
     rt: &HostRuntime,
+    files: &mut F,
     target: &mut Target<'_>,
     names: &[String],
     length: usize,
-    made: Vec<Made>,
-) -> Result<(), FileFault> {
-    let alloc = rt.alloc();
+    made: Vec<Made<F::New>>,
+) -> Result<(), FileFault>
+    ensures folder { target.new.folder ≡ target.old.folder }
+    ensures whenever { GivesEach target.old.folder.now names.now (contents_of made.items) (F.calls files.old) (F.calls files.new) }
+    ensures done { OnOk result (AreThere target.old.folder.now names.now (contents_of made.items) (F.calls files.new)) }
+{
     match first_taken(rt, target, names, length, made.as_slice()) {
-        Ok(None) => {}
+        Ok(None) => place_each(rt, files, target, names, length, made),
         Ok(Some(name)) => {
-            discard_all(rt, target.folder, made)?;
-            return Err(is_there_already(rt, name)?);
+            discard_all(rt, files, target.folder, made)?;
+            Err(is_there_already(rt, name)?)
         }
         Err(fault) => {
-            discard_all(rt, target.folder, made)?;
-            return Err(fault);
+            discard_all(rt, files, target.folder, made)?;
+            Err(fault)
         }
     }
+}
+
+/// Gives each file the name at its index, unless it is there, and writes the names to the disk. After a failure the others are removed.
+fn place_each<F: Folder>(
+    rt: &HostRuntime,
+    files: &mut F,
+    target: &mut Target<'_>,
+    names: &[String],
+    length: usize,
+    made: Vec<Made<F::New>>,
+) -> Result<(), FileFault>
+    ensures folder { target.new.folder ≡ target.old.folder }
+    ensures whenever { GivesEach target.old.folder.now names.now (contents_of made.items) (F.calls files.old) (F.calls files.new) }
+    ensures done { OnOk result (AreThere target.old.folder.now names.now (contents_of made.items) (F.calls files.new)) }
+{
+    let mut touched = Touched::new(rt.alloc());
     let mut refused = None;
-    for (name, made_file) in names.iter().zip(made) {
+    'names: for (name, one) in names.iter().zip(made) {
         if refused.is_some() {
             // The next run removes what can't be removed now.
-            let _ = made_file.file.discard(rt);
+            let _ = discard_new(files, one.file);
             continue;
         }
-        refused = place_one(rt, target, name.as_str(), length as u64, made_file).err();
+        refused = place_one(
+            rt,
+            files,
+            target,
+            &mut touched,
+            name.as_str(),
+            length as u64,
+            one,
+        )
+        .err();
     }
-    if let Some(fault) = refused {
-        return Err(fault);
+    match refused {
+        Some(fault) => Err(fault),
+        None => sync_names(rt, files, touched),
     }
-    sync_folders(rt, target, names)
+}
+
+/// Writes names that were given to the disk.
+pub(crate) fn sync_names<F: Folder>(
+    rt: &HostRuntime,
+    files: &mut F,
+    touched: Touched,
+) -> Result<(), FileFault>
+    ensures whenever { KeepsEach (F.calls files.old) (F.calls files.new) }
+    ensures done { OnOk result (AreDone touched.folders.items (F.calls files.old) (F.calls files.new)) }
+{
+    let mut touched = touched;
+    match touched.sync(files) {
+        Ok(()) => Ok(()),
+        Err(fault) => Err(device(rt.alloc(), fault.name.as_str(), fault.error)),
+    }
 }
 
 /// The first of the names under which there is another file than the one at its index.
-fn first_taken<'n>(
+fn first_taken<'n, N: folders::NewFile>(
     rt: &HostRuntime,
     target: &Target<'_>,
     names: &'n [String],
     length: usize,
-    made: &[Made],
+    made: &[Made<N>],
 ) -> Result<Option<&'n str>, FileFault> {
     for (name, made_file) in names.iter().zip(made.iter()) {
         let path = target.path(rt.alloc(), name.as_str())?;
@@ -112,50 +173,57 @@ fn first_taken<'n>(
     Ok(None)
 }
 
-/// Writes the names of the folders that some names are in to the disk, each folder's once where its names follow each other.
-fn sync_folders(rt: &HostRuntime, target: &Target<'_>, names: &[String]) -> Result<(), FileFault> {
+/// Gives a file its name, unless it is there, and notes its digest, and its folder, whose names are still to be written to the disk.
+pub(crate) fn place_one<F: Folder>(
+    rt: &HostRuntime,
+    files: &mut F,
+    target: &mut Target<'_>,
+    touched: &mut Touched,
+    name: &str,
+    length: u64,
+    made: Made<F::New>,
+) -> Result<(), FileFault>
+    ensures folder { target.new.folder ≡ target.old.folder }
+    ensures whenever { GivesOne (target.old.folder.now ++ 47 ∷ name.now) (content_of made.file) (F.calls files.old) (F.calls files.new) }
+    ensures had { HaveFoldersOf touched.old.folders.items touched.new.folders.items }
+    ensures due { OnOk result (is_temporary (target.old.folder.now ++ 47 ∷ name.now) ≡ false
+        → IsDueAt touched.new.folders.items (F.calls files.new) (target.old.folder.now ++ 47 ∷ name.now) (content_of made.file)) }
+{
     let alloc = rt.alloc();
-    let mut last = String::new(alloc);
-    for name in names {
-        let path = target.path(alloc, name.as_str())?;
-        let folder = folder_of(path.as_str());
-        if folder != last.as_str() {
-            sync_folder(rt, folder).map_err(|error| device(alloc, folder, error))?;
-            last = String::from_str(alloc, folder)?;
+    let Ok(path) = target.path(alloc, name) else {
+        let _ = discard_new(files, made.file);
+        return Err(FileFault::OutOfMemory);
+    };
+    let digest = made.digest;
+    match place_new(files, made.file, path.as_str()) {
+        Ok(placed) => {
+            touched.note(alloc, folder_of(path.as_str()))?;
+            note_placed(rt, target, name, length, digest, placed)
         }
+        Err(error) => Err(device(alloc, path.as_str(), error)),
     }
-    Ok(())
 }
 
-/// Gives a file its name, unless it is there, and notes its digest.
-pub(crate) fn place_one(
+/// Notes the digest of a file that was to get a name, if the name has it or a file of the same bytes.
+fn note_placed(
     rt: &HostRuntime,
     target: &mut Target<'_>,
     name: &str,
     length: u64,
-    made: Made,
-) -> Result<(), FileFault> {
+    digest: Digest,
+    placed: Placed,
+) -> Result<(), FileFault>
+    ensures { target.new.folder ≡ target.old.folder }
+{
     let alloc = rt.alloc();
-    let Ok(path) = target.path(alloc, name) else {
-        let _ = made.file.discard(rt);
-        return Err(FileFault::OutOfMemory);
-    };
-    let digest = made.digest;
-    match place_new(rt, made.file, path.as_str()) {
-        Ok(Placed::Placed) => {}
-        Ok(Placed::IsThere) => {
-            let there = what_is_there(rt, path.as_str(), length, &digest, target.links)?;
-            if there != There::TheSame {
-                return Err(is_there_already(rt, name)?);
-            }
+    if placed == Placed::IsThere {
+        let path = target.path(alloc, name)?;
+        let there = what_is_there(rt, path.as_str(), length, &digest, target.links)?;
+        if there != There::TheSame {
+            return Err(is_there_already(rt, name)?);
         }
-        Err(error) => return Err(device(alloc, path.as_str(), error)),
     }
-    let is_known = match target.sums.digest_of(name) {
-        Some(known) => *known == digest,
-        None => false,
-    };
-    if !is_known {
+    if target.sums.digest_of(name).copied() != Some(digest) {
         target.sums.set(alloc, name, digest)?;
         target.is_changed = true;
     }

@@ -11,7 +11,8 @@ use std::io::{self, ErrorKind};
 use store_faults::{FileFault, device};
 use store_files::{DigestedFile, Sought};
 use store_folder::{
-    Identity, NewFile, Placed, folder_of, path_in, place_again, place_new, sync_folder,
+    Identity, NewFile, Placed, SystemFolder, folder_of, path_in, place_again, place_new,
+    sync_folder,
 };
 use store_names::stripe_folders;
 use store_progress::{Counted, refuse_over_limit};
@@ -56,7 +57,9 @@ pub(crate) fn write_at(
             let Some(file) = write_new(rt, sought, fragments, path, None)? else {
                 return Ok(false);
             };
-            let placed = place_new(rt, file, path).map_err(|error| device(alloc, path, error))?;
+            let placed = place_new(&mut SystemFolder::new(rt), file, path).map_err(|error| device(
+                alloc, path, error,
+            ))?;
             if placed == Placed::IsThere {
                 let error = io::Error::from(ErrorKind::AlreadyExists);
                 return Err(device(alloc, path, error));
