@@ -1,7 +1,7 @@
 //! Whether a folder is a store of the code that it is taken for.
 ghost use Rattle.std.specs.Prelude.{◌≡◌, length, vec_len, IfOk};
 
-use crate::stores::OpenStore;
+use crate::open_stores::OpenStore;
 use lrc_code::Code;
 use std::alloc::{AllocError, Global};
 use store_faults::StoreFault;

@@ -17,10 +17,10 @@ mod lengths;
 #[cfg(test)]
 mod losses;
 #[cfg(test)]
+mod memory_store;
+#[cfg(test)]
 mod ranks;
 #[cfg(test)]
 mod repairs;
 #[cfg(test)]
 mod samples;
-#[cfg(test)]
-mod stores;
