@@ -105,29 +105,11 @@ pub(crate) fn encode_as<R: Threads + Sync>(
     refuse_over_limit(rt, name, fragment_bytes as u64)?;
     let Encoded { digest, made } = make_encoded(threads, rt, target, name, given)?;
     let files = &mut SystemFolder::new(rt);
-    let after = match regular(rt, given.path) {
-        Ok(after) => after,
+    let text = match description_of(rt, target.code, given, digest) {
+        Ok(text) => text,
         Err(fault) => {
             discard_all(rt, files, target.folder, made)?;
             return Err(fault);
-        }
-    };
-    if is_changed(given.before, &after) {
-        discard_all(rt, files, target.folder, made)?;
-        let path = given.path;
-        let what = format!(in alloc; "{path}: changed while it was read")?;
-        return Err(FileFault::Refused { what });
-    }
-    let described = Described {
-        length,
-        digest,
-        code: target.code,
-    };
-    let text = match described.text(alloc) {
-        Ok(text) => text,
-        Err(error) => {
-            discard_all(rt, files, target.folder, made)?;
-            return Err(error.into());
         }
     };
     place_stripe(
@@ -139,6 +121,28 @@ pub(crate) fn encode_as<R: Threads + Sync>(
         made,
         text.as_str(),
     )
+}
+
+/// The text of a file's description, if the file is as it was before it was read.
+fn description_of(
+    rt: &HostRuntime,
+    code: Code,
+    given: &Given<'_>,
+    digest: Digest,
+) -> Result<String, FileFault> {
+    let after = regular(rt, given.path)?;
+    if is_changed(given.before, &after) {
+        let path = given.path;
+        let what = format!(in rt.alloc(); "{path}: changed while it was read")?;
+        return Err(FileFault::Refused { what });
+    }
+    let length = given.before.len();
+    let described = Described {
+        length,
+        digest,
+        code,
+    };
+    Ok(described.text(rt.alloc())?)
 }
 
 /// Refuses a file the names of whose fragments would be those of something else.
