@@ -8,7 +8,7 @@ use Rattle.std.specs.Result.{result_err}
 use Rattle.folders.specs.Calls.{Answered}
 use Rattle.folders.specs.Kept.{Keeps}
 use Rattle.folders.specs.Disk.{HasWhole}
-use Rattle.folders.specs.Placed.{IsGiven, WasSynced}
+use Rattle.folders.specs.Placed.{IsGiven}
 use Rattle.folders.proofs.Runs.{keeps_after, keeps_all, keeps_weaker}
 use Rattle.folders.proofs.Staying.{on_disk_over, refused_over}
 use Rattle.store_folder.specs.Done.{HasFolderOf, HaveFoldersOf, IsDue}

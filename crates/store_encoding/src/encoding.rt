@@ -24,7 +24,7 @@ use store_folder::{
     DESCRIPTION, Described, Digest, KEPT, Links, SystemFolder, is_ambiguous, open_fragment,
     path_in, read_description,
 };
-use store_progress::{CountedSource, Progress, refuse_over_limit};
+use store_progress::{Progress, refuse_over_limit};
 use store_repair::fragment_length;
 use stripe_files::StripeFiles;
 use subfolders::make_folders;

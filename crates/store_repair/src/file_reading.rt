@@ -21,7 +21,7 @@ use lrc_code::{Code, Place, PlaceSet, Reduced};
 use lrc_field::Gf;
 use lrc_plan::{reduce_by_lost, value_from};
 use std::alloc::{AllocError, Global};
-use std::{io, slice};
+use std::slice;
 use stores::{Fragment, NewFragment};
 
 /// Appends a file of so many bytes to `output`, from the survivors of its stripe. Of those that aren't its parts only what the lost parts

@@ -6,7 +6,7 @@ use lrc_code::{Code, Place};
 use memory_folder::MemoryFolder;
 use std::alloc::{AllocError, Global};
 use store_folder::{FolderStore, Links, Pattern, SeparateStore, Site, Sums};
-use store_repair::{Found, Repair, Stripe, StripeFiles, StripeOutcome, repair_stripe};
+use store_repair::{Found, Stripe, StripeFiles, StripeOutcome, repair_stripe};
 
 /// Where the short stripe's folder is.
 const SITE: Site<'static> = Site {

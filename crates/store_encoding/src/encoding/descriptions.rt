@@ -1,5 +1,5 @@
 //! The copies of a file's description, which say that all of its stripe is there.
-ghost use Rattle.std.specs.Prelude.{◌≡◌, ◌∷◌, ◌++◌, [], IfOk, OnOk, Some, false};
+ghost use Rattle.std.specs.Prelude.{◌≡◌, ◌∷◌, ◌++◌, IfOk, OnOk, Some, false};
 ghost use Rattle.store_folder.specs.Kept.{GivesOne, KeepsEach};
 ghost use Rattle.store_folder.specs.Placed.{content_of};
 ghost use Rattle.store_folder.specs.Temporary.{is_temporary};
@@ -8,7 +8,6 @@ ghost use Rattle.store_encoding.specs.Encoded.{AreThere, GivesEach, IsThereAt, e
 use crate::encoding::fragments::new_file;
 use crate::encoding::placing::{Made, place_one, sync_names};
 use folders::Folder;
-use std::alloc::Global;
 use std::io;
 use store_faults::{FileFault, device};
 use store_files::{DigestAlone, Target};

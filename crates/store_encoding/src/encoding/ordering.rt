@@ -1,5 +1,5 @@
 //! The order in which the files of a stripe get their names.
-ghost use Rattle.std.specs.Prelude.{◌≡◌, OnOk};
+ghost use Rattle.std.specs.Prelude.{OnOk};
 ghost use Rattle.store_encoding.specs.Encoded.{AreThere, EncodesFile, contents_of, each_has};
 
 use crate::encoding::descriptions::place_descriptions;
