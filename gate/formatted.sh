@@ -5,10 +5,9 @@ cd "$(dirname "$0")/.."
 copy=$(mktemp -d)
 trap 'rm -rf "$copy"' EXIT
 tools/copy-tree.sh "$copy"
-said=$(for crate in "$copy"/crates/*/; do
-  cd "$crate"
-  rt fmt 2>&1 | sed -n "s|^rt: formatted |crates/$(basename "$crate")/|p"
-done)
+# The crates side by side, each in a process of its own.
+said=$(printf '%s\0' "$copy"/crates/*/ | xargs -0 -P "$(nproc)" -I CRATE sh -c \
+  'cd CRATE && rt fmt 2>&1 | sed -n "s|^rt: formatted |crates/$(basename CRATE)/|p"')
 if [ -n "$said" ]; then
   printf '%s\n' "$said" 'formatted: run rt fmt in these crates' >&2
   exit 1

@@ -858,6 +858,21 @@ def test_descriptions_that_differ(place, choose):
         hold((store / "disk4/note.file.damaged").read_bytes() == wrong, "the copy that differed isn't kept")
         (store / "disk4/note.file.damaged").unlink()
         hold(below(store) == whole, "the copy wasn't replaced")
+        # A run that was killed after it had given the copy its second name: the same command goes on.
+        (store / "disk4/note.file").write_bytes(wrong)
+        os.link(store / "disk4/note.file", store / "disk4/note.file.damaged")
+        run("repair", store, *DISKS, "--replace-damaged", status=0)
+        hold((store / "disk4/note.file.damaged").read_bytes() == wrong, "the copy that differed isn't kept")
+        hold((store / "disk4/note.file").read_bytes() == line, "the copy wasn't replaced")
+        # Another one is kept there: both stay.
+        (store / "disk4/note.file").write_bytes(other + b"x")
+        said = run("repair", store, *DISKS, "--replace-damaged", status=1)
+        hold("disk4/note.file: has come meanwhile, or one that was replaced is kept beside it" in said, said)
+        hold((store / "disk4/note.file").read_bytes() == other + b"x", "the copy was replaced and isn't kept")
+        hold((store / "disk4/note.file.damaged").read_bytes() == wrong, "the copy that was kept is gone")
+        (store / "disk4/note.file.damaged").unlink()
+        (store / "disk4/note.file").write_bytes(line)
+        hold(below(store) == whole, "something else has changed")
     # Most copies are wrong: the sums know the right one, and nothing is believed without them.
     for number in range(6):
         (store / f"disk{number}/note.file").write_bytes(other)

@@ -9,6 +9,7 @@ pub mod KeptGiven
 pub mod LastNames
 pub mod Links
 pub mod NewFiles
+pub mod Others
 pub mod Runs
 pub mod SeenFiles
 pub mod Staying

@@ -5,6 +5,7 @@ pub mod Exchanged
 pub mod Files
 pub mod Given
 pub mod Kept
+pub mod Others
 pub mod Placed
 pub mod Recorded
 pub mod Worlds

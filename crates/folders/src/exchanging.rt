@@ -1,6 +1,7 @@
 //! A new file gets the path of another one, which a second path keeps: the second path is on the disk before the first is given away.
-ghost use Rattle.std.specs.Prelude.{◌≡◌, ◌≢◌, ℕ, List, Bool, true, false, IfOk, IsSome};
+ghost use Rattle.std.specs.Prelude.{◌≡◌, ◌≢◌, ◌⊎◌, ℕ, List, Bool, true, false, IfOk, IsSome};
 ghost use Rattle.folders.specs.Exchanged.{Exchanges, LeadToOne, WasAsked};
+ghost use Rattle.folders.specs.Others.{LeavesOthers};
 ghost use Rattle.folders.specs.Placed.{HasPath};
 
 use crate::folder::Folder;
@@ -16,7 +17,8 @@ pub struct Exchanged<W> {
 
 /// Writes a file to the disk and gives it the path of another one, which the second path then keeps. Not done if something else is at the
 /// second path. Whenever that ends, the path has what it had, or all the bytes of the file, and then what was there is at the second path.
-/// If it is done, the path leads to the file, whose bytes are on the disk.
+/// If it is done, the path leads to the file, whose bytes are on the disk. A whole file at another path than these and the one at which the
+/// new file was made stays there.
 ///
 /// # Errors
 ///
@@ -32,6 +34,8 @@ pub fn exchange<F: Folder>(
     ensures whenever { (temporary : List ℕ → Bool) → temporary path.now ≡ false → temporary second.now ≡ false
         → temporary (F.New.path file) ≡ true → path.now ≢ second.now
         → Exchanges (λ p. temporary p ≡ true) (F.New.written file) path.now second.now (F.calls folder.old) (F.calls folder.new) }
+    ensures others { LeavesOthers (λ p. (p ≡ path.now) ⊎ (p ≡ second.now) ⊎ (p ≡ F.New.path file)) (F.calls folder.old)
+        (F.calls folder.new) }
     ensures path { IfOk result (λ exchanged. F.Whole.path exchanged.file ≡ F.New.path file) }
     ensures given { IfOk result (λ exchanged. exchanged.is_done ≡ true
         → HasPath path.now (F.New.written file) (F.calls folder.new)) }

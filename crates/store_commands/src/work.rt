@@ -161,10 +161,11 @@ fn take_stripes(
     order: &[usize],
     next: &AtomicUsize,
 ) -> Result<Worked, AllocError> {
-    let mut all = Vec::new(system.alloc());
-    let mut held = String::new(system.alloc());
-    let counters = stripes.opened.counters;
-    let reads = CountedReads::new(system, &counters.progress)?;
+    let mut worked = Worked {
+        all: Vec::new(system.alloc()),
+        held: String::new(system.alloc()),
+    };
+    let reads = CountedReads::new(system, &stripes.opened.counters.progress)?;
     let reads = Arc::new(system.alloc(), reads)?;
     let counted = Arc::try_clone(&reads)?;
     let files = CountingFolder::new(SystemFolder::new(system), counted);
@@ -173,28 +174,50 @@ fn take_stripes(
         let Some(index) = order.get(next.fetch_add(1, Ordering::SeqCst)).copied() else {
             break;
         };
-        let Some(stripe) = stripes.opened.stripes.get(index) else {
-            break;
-        };
-        let has_sums = stripes.site.sums.is_some();
-        let bytes = work.bytes_of(system.alloc(), has_sums, stripe)?;
-        reads.begin(bytes);
-        let outcome = outcome_of(system.alloc(), &mut store, work, stripe)?;
-        counters.progress.note(&outcome);
-        reads.end(work.units_of(&outcome), bytes);
-        let descriptions = descriptions_of(system, stripes, work, stripe, outcome.length)?;
-        let done = Done {
+        take_stripe(
+            system,
+            stripes,
+            work,
             index,
-            outcome,
-            descriptions,
-        };
-        if let Some(rows) = stripes.rows {
-            rows.add(system, &mut held, stripe.name, &done)?;
-        }
-        counters.write_in_time(system);
-        all.push(done)?;
+            &mut store,
+            &reads,
+            &mut worked,
+        )?;
     }
-    Ok(Worked { all, held })
+    Ok(worked)
+}
+
+/// Does the work with the stripe at an index.
+fn take_stripe(
+    system: &HostRuntime,
+    stripes: &Stripes<'_>,
+    work: Work,
+    index: usize,
+    store: &mut SeparateStore<'_, CountingFolder<SystemFolder<'_>>>,
+    reads: &CountedReads,
+    worked: &mut Worked,
+) -> Result<(), AllocError> {
+    let Some(stripe) = stripes.opened.stripes.get(index) else {
+        return Ok(());
+    };
+    let counters = stripes.opened.counters;
+    let bytes = work.bytes_of(system.alloc(), stripes.site.sums.is_some(), stripe)?;
+    reads.begin(bytes);
+    let outcome = outcome_of(system.alloc(), store, work, stripe)?;
+    counters.progress.note(&outcome);
+    reads.end(work.units_of(&outcome), bytes);
+    let descriptions = descriptions_of(system, stripes, work, stripe, outcome.length)?;
+    let done = Done {
+        index,
+        outcome,
+        descriptions,
+    };
+    if let Some(rows) = stripes.rows {
+        rows.add(system, &mut worked.held, stripe.name, &done)?;
+    }
+    counters.write_in_time(system);
+    worked.all.push(done)?;
+    Ok(())
 }
 
 /// Does the work with the descriptions of a stripe whose fragments have so many bytes, if it has any.

@@ -6,14 +6,14 @@ pub(crate) mod placing;
 mod replacing;
 pub(crate) mod source;
 pub(crate) mod spool;
-mod stripe_files;
+pub(crate) mod stripe_files;
 pub(crate) mod subfolders;
 pub(crate) mod sums;
 
 use fragments::{Encoded, make_encoded, source_digest};
 use lrc_code::{Code, Place};
 use ordering::place_stripe;
-use placing::{discard_all, is_there_already};
+use placing::{discard_all, first_of, is_there_already};
 use replacing::{finish_replacing, replace};
 use source::{is_changed, no_name, regular, stripe_name};
 use std::fs::Metadata;
@@ -108,8 +108,8 @@ pub(crate) fn encode_as<R: Threads + Sync>(
     let text = match description_of(rt, target.code, given, digest) {
         Ok(text) => text,
         Err(fault) => {
-            discard_all(rt, files, target.folder, made)?;
-            return Err(fault);
+            let removed = discard_all(rt, files, target.folder, made);
+            return Err(first_of(removed, fault));
         }
     };
     place_stripe(
@@ -197,25 +197,48 @@ fn refuse_others(
     let alloc = rt.alloc();
     let described = described_as(target.code, given);
     for description in target.descriptions(alloc, name)? {
-        let path = target.path(alloc, description.as_str())?;
-        if is_there(rt, path.as_str())? {
-            match read_description(rt, path.as_str(), target.links) {
-                Ok(Some(there)) if described == Some(there) => {}
-                _ => return Err(is_there_already(rt, description.as_str())?),
-            }
-        }
+        refuse_description(rt, target, description.as_str(), described)?;
     }
     if target.pattern.has_shards() {
         return Ok(());
     }
     for place in &Place::ALL {
         if !target.code.has(*place) {
-            let fragment = fragment_name(alloc, &target.pattern, Code::Wide, name, *place)?;
-            let path = path_in(alloc, target.folder, fragment.as_str())?;
-            if is_there(rt, path.as_str())? {
-                return Err(is_there_already(rt, fragment.as_str())?);
-            }
+            refuse_fragment(rt, target, name, *place)?;
         }
+    }
+    Ok(())
+}
+
+/// Refuses a file under the name of whose description there is something else.
+fn refuse_description(
+    rt: &HostRuntime,
+    target: &Target<'_>,
+    description: &str,
+    described: Option<Described>,
+) -> Result<(), FileFault> {
+    let path = target.path(rt.alloc(), description)?;
+    if !is_there(rt, path.as_str())? {
+        return Ok(());
+    }
+    match read_description(rt, path.as_str(), target.links) {
+        Ok(Some(there)) if described == Some(there) => Ok(()),
+        _ => Err(is_there_already(rt, description)?),
+    }
+}
+
+/// Refuses a file if there is a fragment of its stripe at a place that its code hasn't.
+fn refuse_fragment(
+    rt: &HostRuntime,
+    target: &Target<'_>,
+    name: &str,
+    place: Place,
+) -> Result<(), FileFault> {
+    let alloc = rt.alloc();
+    let fragment = fragment_name(alloc, &target.pattern, Code::Wide, name, place)?;
+    let path = path_in(alloc, target.folder, fragment.as_str())?;
+    if is_there(rt, path.as_str())? {
+        return Err(is_there_already(rt, fragment.as_str())?);
     }
     Ok(())
 }

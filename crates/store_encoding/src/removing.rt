@@ -6,6 +6,7 @@ ghost use Rattle.store_encoding.specs.Digests.{KeepsDigests};
 ghost use Rattle.store_encoding.specs.Replaced.{IsTextOf};
 ghost use Rattle.store_encoding.specs.Taken.{GoesOf, IsTakenOut, KeepsRest};
 
+use crate::encoding::stripe_files::StripeFiles;
 use crate::encoding::sums::write_new_sums;
 use crate::own_folders::remove_own_folders;
 use crate::taking::take_files;
@@ -28,34 +29,71 @@ pub fn remove_stored(
         return Err(no_stored(alloc, name, target.folder)?);
     }
     let staged = staged_name(alloc, name)?;
-    let mut descriptions = names_of_descriptions(rt, target, name)?;
-    for description in names_of_descriptions(rt, target, staged.as_str())? {
-        descriptions.push(description)?;
+    let files = names_of_both(rt, target, name, staged.as_str())?;
+    remove_both(rt, target, name, &files)?;
+    remove_own_folders(rt, target, staged.as_str(), name)?;
+    Ok(remove_own_folders(rt, target, name, staged.as_str())?)
+}
+
+/// The names of a stripe's files, and of those that were to replace them.
+fn names_of_both(
+    rt: &HostRuntime,
+    target: &Target<'_>,
+    name: &str,
+    staged: &str,
+) -> Result<StripeFiles, FileFault> {
+    let mut names = StripeFiles {
+        fragments: target.names(rt.alloc(), name)?,
+        descriptions: names_of_descriptions(rt, target, name)?,
+    };
+    match add_names(rt, target, staged, &mut names) {
+        Ok(()) => Ok(names),
+        Err(fault) => Err(fault),
     }
-    let mut fragments = target.names(alloc, name)?;
-    for fragment in target.names(alloc, staged.as_str())? {
-        fragments.push(fragment)?;
+}
+
+/// Adds the names of a stripe's files.
+fn add_names(
+    rt: &HostRuntime,
+    target: &Target<'_>,
+    stripe: &str,
+    names: &mut StripeFiles,
+) -> Result<(), FileFault> {
+    for description in names_of_descriptions(rt, target, stripe)? {
+        names.descriptions.push(description)?;
     }
-    refuse_linked(rt, target, descriptions.as_slice())?;
-    refuse_linked(rt, target, fragments.as_slice())?;
-    if !has_any(rt, target, &descriptions)? && !has_any(rt, target, &fragments)? {
-        return Err(no_stored(alloc, name, target.folder)?);
+    for fragment in target.names(rt.alloc(), stripe)? {
+        names.fragments.push(fragment)?;
+    }
+    Ok(())
+}
+
+/// Takes the files of these names out of a store, and their digests; refuses the file of a name of which none is there.
+fn remove_both(
+    rt: &HostRuntime,
+    target: &mut Target<'_>,
+    name: &str,
+    names: &StripeFiles,
+) -> Result<(), FileFault> {
+    let descriptions = names.descriptions.as_slice();
+    let fragments = names.fragments.as_slice();
+    refuse_linked(rt, target, descriptions)?;
+    refuse_linked(rt, target, fragments)?;
+    if !has_any(rt, target, descriptions)? && !has_any(rt, target, fragments)? {
+        return Err(no_stored(rt.alloc(), name, target.folder)?);
     }
     for other in descriptions.iter().chain(fragments.iter()) {
         if target.sums.remove(other.as_str()) {
             target.is_changed = true;
         }
     }
-    let files = &mut SystemFolder::new(rt);
     take_out(
         rt,
-        files,
+        &mut SystemFolder::new(rt),
         target,
-        descriptions.as_slice(),
-        fragments.as_slice(),
-    )?;
-    remove_own_folders(rt, target, staged.as_str(), name)?;
-    Ok(remove_own_folders(rt, target, name, staged.as_str())?)
+        descriptions,
+        fragments,
+    )
 }
 
 /// The names of a stripe's descriptions that go with it.

@@ -4,8 +4,8 @@ use crate::stored_file::StoredFile;
 use crate::target::Target;
 use lrc_code::{Code, Place};
 use std::alloc::Global;
-use std::fs;
 use std::io::ErrorKind;
+use std::{fs, mem};
 use store_faults::{FileFault, device};
 use store_folder::{
     Described, Links, description_names, first_description_name, is_absent, path_in,
@@ -30,26 +30,47 @@ pub fn descriptions_of(
     }
     let mut said = Vec::new(alloc);
     let mut refused = None;
-    for copy in &names {
+    match add_copies(rt, file, names.as_slice(), &mut said, &mut refused) {
+        Ok(()) => ordered(rt, file, said.as_slice(), refused),
+        Err(fault) => Err(fault),
+    }
+}
+
+/// Adds what copies say, and says why others can't be read, but for the last of these.
+fn add_copies(
+    rt: &HostRuntime,
+    file: &StoredFile<'_, '_>,
+    copies: &[String],
+    said: &mut Vec<Described>,
+    refused: &mut Option<FileFault>,
+) -> Result<(), FileFault> {
+    for copy in copies {
         match description_at(rt, file, copy.as_str()) {
             Ok(Some(described)) => said.push(described)?,
             Ok(None) => {}
             Err(FileFault::OutOfMemory) => return Err(FileFault::OutOfMemory),
-            Err(fault) => {
-                say_fault(rt, file, refused);
-                refused = Some(fault);
-            }
+            Err(fault) => say_fault(rt, file, mem::replace(refused, Some(fault))),
         }
     }
-    match refused {
-        // The caller says it.
-        Some(fault) if said.is_empty() => Err(fault),
-        None if said.is_empty() => Err(undescribed(rt, file)?),
-        last => {
-            say_fault(rt, file, last);
-            in_order(alloc, said.as_slice())
-        }
+    Ok(())
+}
+
+/// What copies say, first what most say; or why none says anything. Else it is said why the last that can't be read can't.
+fn ordered(
+    rt: &HostRuntime,
+    file: &StoredFile<'_, '_>,
+    said: &[Described],
+    refused: Option<FileFault>,
+) -> Result<Vec<Described>, FileFault> {
+    if said.is_empty() {
+        return match refused {
+            // The caller says it.
+            Some(fault) => Err(fault),
+            None => Err(undescribed(rt, file)?),
+        };
     }
+    say_fault(rt, file, refused);
+    in_order(rt.alloc(), said)
 }
 
 /// Says what is wrong with a copy, if anything is.

@@ -1,69 +1,97 @@
 //! SHA-256 digests of files: of what is written, as it is written, and of what is there.
-ghost use Rattle.std.specs.Prelude.{None};
+ghost use Rattle.std.specs.Prelude.{◌≡◌, ◌++◌, ℕ, List, [], true, IfSome, IsSomeAnd, Some};
+ghost use Rattle.sha2.specs.Hashers.{Holds256};
+ghost use Rattle.sha2.specs.Sha256.{sha256};
+ghost use Rattle.store_files.specs.Digests.{HasDigest, IsDigestOf};
 
+use folders::Written;
 use sha2::{Digest as _, Sha256};
 use std::io;
-use store_folder::{Digest, Links, NewFile, digest_of, open_fragment};
+use store_folder::{Digest, Links, digest_of, open_fragment};
 use store_repair::NewFragment;
 
-/// A new fragment that is digested as it is written.
+/// A new file that is digested as it is written.
 #[derive(Drop)]
-pub struct DigestedFile {
-    file: NewFile,
-    digest: Sha256,
+pub struct Digested<N: NewFragment> {
+    file: N,
+    /// None once bytes couldn't be appended.
+    digest: Option<Sha256>,
+    ghost digested: { ∥ IsDigestOf digest (N.shown file) ∥₁ },
 }
 
-impl DigestedFile {
-    /// With nothing written yet.
-    pub fn new(file: NewFile) -> DigestedFile {
-        DigestedFile {
+impl<N: NewFragment> Digested<N> {
+    /// An empty file.
+    pub fn new(file: N) -> Digested<N>
+        requires { N.shown file ≡ Some [] }
+    {
+        Digested {
             file,
-            digest: Sha256::new(),
+            digest: Some(Sha256::new()),
         }
     }
 
-    /// The file, and the digest of what was written.
-    pub fn finish(self) -> (NewFile, Digest) {
-        let DigestedFile { file, digest } = self;
-        (file, digest.finalize())
+    /// The file, and whether all that was written to it has a digest. It hasn't if bytes are missing.
+    pub fn finish(self, wanted: &Digest) -> (N, bool)
+        ensures { result.1 ≡ true → HasDigest wanted.now (N.shown result.0) }
+    {
+        let Digested { file, digest } = self;
+        (file, is_as_wanted(digest, wanted))
     }
 }
 
-impl NewFragment for DigestedFile {
-    ghost shown = { λ _. None };
+impl<N: NewFragment> NewFragment for Digested<N> {
+    ghost shown = { λ digested. N.shown digested.file };
 
     fn append(&mut self, bytes: &[u8]) -> io::Result<()> {
-        self.digest.update(bytes);
-        self.file.append(bytes)
+        let digest = self.digest.take();
+        self.file.append(bytes)?;
+        self.digest = with_more(digest, bytes);
+        Ok(())
     }
 }
 
-/// The digest of what would be written.
+/// What was digested, and these bytes after it.
+fn with_more(digest: Option<Sha256>, bytes: &[u8]) -> Option<Sha256>
+    ensures { IfSome result (λ more. IsSomeAnd digest (λ d. (before : List ℕ) → Holds256 d before → Holds256 more (before ++ bytes.now))) }
+{
+    let mut digest = digest?;
+    digest.update(bytes);
+    Some(digest)
+}
+
+/// Whether what was digested, if anything was, has a digest.
+fn is_as_wanted(digest: Option<Sha256>, wanted: &Digest) -> bool
+    ensures { result ≡ true → IsSomeAnd digest (λ d. (bytes : List ℕ) → Holds256 d bytes → sha256 bytes ≡ wanted.now) }
+{
+    let Some(digest) = digest else {
+        return false;
+    };
+    let made = digest.finalize();
+    made.as_slice() == wanted.as_slice()
+}
+
+/// A file of which nothing is kept, for its digest alone.
 #[derive(Drop)]
-pub struct DigestAlone {
-    digest: Sha256,
+pub struct Unkept {
+    written: Written,
 }
 
-impl DigestAlone {
+impl Unkept {
     /// With nothing written yet.
-    pub fn new() -> DigestAlone {
-        DigestAlone {
-            digest: Sha256::new(),
+    pub fn new() -> Unkept
+        ensures { result.written.bytes ≡ Some [] }
+    {
+        Unkept {
+            written: Written::new(),
         }
     }
-
-    /// The digest of what was written.
-    pub fn finish(self) -> Digest {
-        let DigestAlone { digest } = self;
-        digest.finalize()
-    }
 }
 
-impl NewFragment for DigestAlone {
-    ghost shown = { λ _. None };
+impl NewFragment for Unkept {
+    ghost shown = { λ file. file.written.bytes };
 
     fn append(&mut self, bytes: &[u8]) -> io::Result<()> {
-        self.digest.update(bytes);
+        self.written = Written::with(&self.written, bytes, true);
         Ok(())
     }
 }

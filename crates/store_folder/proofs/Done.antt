@@ -12,8 +12,11 @@ use Rattle.folders.specs.Placed.{HasPath, WasRefused}
 use Rattle.folders.specs.Files.{IsIn}
 use Rattle.folders.specs.Disk.{HasWhole, IsOnDisk}
 use Rattle.folders.specs.Kept.{Keeps}
+use Rattle.folders.specs.Others.{StaysAt}
+use Rattle.folders.proofs.Others.{stays_kept}
 use Rattle.folders.proofs.Staying.{has_whole_over, on_disk_over, refused_over, settled}
 use Rattle.std.specs.Prelude.{IsOkAnd, IsSome, IsSomeAnd}
+use Rattle.lrc_code.specs.declared.places.Place.{Place}
 use Rattle.store_folder.specs.declared.site.Site.{Site}
 use Rattle.store_folder.specs.Done.{HasFolderOf, HaveFoldersOf, IsDue, IsNamed, IsSettled}
 use Rattle.store_folder.specs.Kept.{IsTemporary, KeepsEach}
@@ -62,16 +65,18 @@ pub all_done : (path bytes : List ℕ) (folders : List (String Global)) (calls :
 all_done path bytes folders calls none (inl held) = held
 all_done path bytes folders calls none (inr due) = absurd (let no : ⊥ = subst (HasFolderOf path) none due.1 in no)
 
+-- over calls that leave a path as it is
+due_at : (path bytes : List ℕ) (folders later : List (String Global)) (old new : List Answered) → StaysAt path old new
+    → (HasFolderOf path folders → HasFolderOf path later) → IsDue folders old path bytes → IsDue later new path bytes
+due_at path bytes folders later old new stays had (inl held) = inl (stays.on_disk bytes held)
+due_at path bytes folders later old new stays had (inr due) = inr (stays.whole bytes due.0, had due.1)
+
 -- over calls that take nothing away
 pub due_over : (given : List ℕ → List ℕ → Type 0) (path bytes : List ℕ) (folders more : List (String Global)) (old new : List Answered)
     → is_temporary path ≡ false → (HasFolderOf path folders → HasFolderOf path more) → Keeps IsTemporary given old new
     → IsDue folders old path bytes → IsDue more new path bytes
-due_over given path bytes folders more old new lasting had keeps (inl held) =
-    inl (on_disk_over IsTemporary path bytes (lasts path lasting) keeps.more old new keeps.are keeps.takes held)
-due_over given path bytes folders more old new lasting had keeps (inr due) = inr (
-  has_whole_over IsTemporary path bytes (lasts path lasting) keeps.more old new keeps.are keeps.takes due.0,
-  had due.1,
-)
+due_over given path bytes folders more old new lasting had keeps =
+    due_at path bytes folders more old new (stays_kept IsTemporary given path (lasts path lasting) old new keeps) had
 
 -- a folder that is noted already
 pub noted : (folder path : List ℕ) (folders : List (String Global))
@@ -139,13 +144,12 @@ some_due Refused (Some bytes) P some (inr is) = inr is
 -- ---- what a store says of fragments that got their names
 
 module _ (path : List ℕ) (lasting : is_temporary path ≡ false) (folders : List (String Global)) (old new : List Answered) where
-  due_later : (given : List ℕ → List ℕ → Type 0) (more : List (String Global)) (written : Option (List ℕ))
-      → HaveFoldersOf folders more → Keeps IsTemporary given old new → WasRefused path old ⊎ IsSomeAnd written (IsDue folders old path)
-      → WasRefused path new ⊎ IsSomeAnd written (IsDue more new path)
-  due_later given more written had keeps (inl was) = inl (refused_over path keeps.more old new keeps.are was)
-  due_later given more None had keeps (inr none) = absurd none
-  due_later given more (Some bytes) had keeps (inr due) =
-      inr (due_over given path bytes folders more old new lasting (had path) keeps due)
+  due_later : (later : List (String Global)) (written : Option (List ℕ)) → HaveFoldersOf folders later → StaysAt path old new
+      → WasRefused path old ⊎ IsSomeAnd written (IsDue folders old path)
+      → WasRefused path new ⊎ IsSomeAnd written (IsDue later new path)
+  due_later later written had stays (inl was) = inl (stays.refused was)
+  due_later later None had stays (inr none) = absurd none
+  due_later later (Some bytes) had stays (inr due) = inr (due_at path bytes folders later old new stays (had path) due)
 
   due_done : (written : Option (List ℕ)) → KeepsEach old new → ((bytes : List ℕ) → IsDue folders old path bytes → IsOnDisk path bytes new)
       → WasRefused path old ⊎ IsSomeAnd written (IsDue folders old path)
@@ -155,19 +159,26 @@ module _ (path : List ℕ) (lasting : is_temporary path ≡ false) (folders : Li
   due_done (Some bytes) keeps done (inr due) = inr (done bytes due)
 
 module _ (old_site new_site : Site) (same : new_site ≡ old_site) (folders : List (String Global)) (old new : List Answered) where
+  -- over calls that leave its path as it is
+  pub named_at : (more : List (String Global)) → HaveFoldersOf folders more → (stripe : List ℕ) (place : Place)
+      (written : Option (List ℕ)) → (named : IsNamed old_site stripe place written folders old) → StaysAt named.path old new
+      → IsNamed new_site stripe place written more new
+  named_at more had stripe place written named stays =
+      subst (λ site. IsNamed site stripe place written more new) (sym same) (record {
+        path = named.path;
+        here = named.here;
+        lasting = named.lasting;
+        due = due_later named.path named.lasting folders old new more written had stays named.due;
+        listed = named.listed;
+      })
+
   -- over calls that take nothing away
   pub named_over : (given : List ℕ → List ℕ → Type 0) (more : List (String Global)) → HaveFoldersOf folders more
       → Keeps IsTemporary given old new
       → StaysOver (λ stripe place written. IsNamed old_site stripe place written folders old)
       (λ stripe place written. IsNamed new_site stripe place written more new)
-  named_over given more had keeps stripe place written named =
-      subst (λ site. IsNamed site stripe place written more new) (sym same) (record {
-        path = named.path;
-        here = named.here;
-        lasting = named.lasting;
-        due = due_later named.path named.lasting folders old new given more written had keeps named.due;
-        listed = named.listed;
-      })
+  named_over given more had keeps stripe place written named = named_at more had stripe place written named
+      (stays_kept IsTemporary given named.path (lasts named.path named.lasting) old new keeps)
 
   -- names were written to the disk
   pub named_settled : KeepsEach old new

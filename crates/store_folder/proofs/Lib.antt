@@ -1,3 +1,4 @@
+pub mod Beside
 pub mod Changed
 pub mod Digests
 pub mod Done

@@ -9,16 +9,24 @@ use Rattle.store_folder.specs.declared.site.Site.{Site}
 use Rattle.folders.specs.Placed.{HasPath}
 use Rattle.folders.proofs.ExchangeRuns.{exchanges_then}
 use Rattle.folders.proofs.Exchanges.{not_on}
+use Rattle.folders.proofs.Others.{stays_kept, stays_then}
 use Rattle.folders.proofs.Runs.{keeps_after, keeps_all}
 use Rattle.store_folder.specs.Done.{HasFolderOf, IsDue}
 use Rattle.store_folder.specs.Kept.{IsPathOf, IsTemporary, KeepsEach}
-use Rattle.store_folder.specs.Replaced.{ReplacesIn, ReplacesOne, second_path}
+use Rattle.store_folder.specs.Replaced.{IsTouched, ReplacesIn, ReplacesOne, second_path}
 use Rattle.store_folder.specs.Temporary.{is_temporary}
 
 -- a path isn't its second one
 pub apart : (path : List ℕ) → path ≡ second_path path → ⊥
 apart path same =
     let len : length path ≡ length path + 8 = ap length same ∙ length-append path (codes ".damaged") in absurd (omega (arith, len))
+
+-- the paths that an exchange changes
+pub touched : (path second from : List ℕ) → second ≡ second_path path → IsTemporary from → (p : List ℕ)
+    → (p ≡ path) ⊎ (p ≡ second) ⊎ (p ≡ from) → IsTouched path p
+touched path second from is temporary p (inl here) = inr (inl here)
+touched path second from is temporary p (inr (inl kept)) = inr (inr (kept ∙ is))
+touched path second from is temporary p (inr (inr made)) = inl (ap is_temporary made ∙ temporary)
 
 -- nothing was called
 pub replaces_nothing : (path : List ℕ) (written : Option (List ℕ)) (calls : List Answered) → ReplacesOne path written calls calls
@@ -35,6 +43,8 @@ replaces_then path second written old mid new lasting is free (inr first) quiet 
   lasting = first.lasting;
   exchanges = exchanges_then IsTemporary written path (second_path path) (not_on (is_temporary path) lasting)
       (not_on (is_temporary (second_path path)) first.lasting) old mid new first.exchanges quiet;
+  others = λ p other. stays_then p old mid new (first.others p other)
+      (stays_kept IsTemporary (λ q bytes. ⊥) p (λ is. other (inl is)) mid new quiet);
 })
 
 -- the path that was given is still to be written to the disk

@@ -5,14 +5,14 @@ use Rattle.folders.specs.Calls.{Call, Answered, sync_folder}
 use Rattle.folders.specs.Disk.{HasWhole, IsOnDisk}
 use Rattle.folders.specs.Files.{IsIn}
 use Rattle.folders.specs.Given.{Nothing}
-use Rattle.folders.specs.Placed.{HasPath}
+use Rattle.folders.specs.Placed.{HasPath, IsGiven}
 use Rattle.folders.specs.Worlds.{World}
 use Rattle.folders.proofs.Answers.{keeps_answered}
 use Rattle.folders.proofs.GivenAfter.{gives_after, gives_nothing, gives_weaker}
-use Rattle.folders.proofs.KeptGiven.{keeps_gives}
+use Rattle.folders.proofs.KeptGiven.{keeps_gives, keeps_puts}
 use Rattle.folders.proofs.Staying.{settled}
 use Rattle.folders.proofs.Steps.{IsQuiet}
-use Rattle.store_folder.specs.Kept.{IsTemporary, KeepsEach}
+use Rattle.store_folder.specs.Kept.{GivesOne, IsTemporary, KeepsEach}
 use Rattle.store_folder.specs.Written.{Puts, PutsOne}
 
 module _ (puts : List ℕ → Option (List ℕ) → Type 0) where
@@ -27,6 +27,12 @@ module _ (puts : List ℕ → Option (List ℕ) → Type 0) where
   puts_after old mid new first second = gives_after IsTemporary Nothing puts Nothing puts (λ from to none. none) (λ path content put. put)
       (λ from to none. absurd none) (λ from between to some none. absurd none) (λ from to content none. absurd none) old mid new
       first second
+
+  -- a path at which nothing is gets a new file that it may get
+  pub puts_given : (to : List ℕ) (written : Option (List ℕ)) (old new : List Answered)
+      → ((bytes : List ℕ) → written ≡ Some bytes → puts to (Some bytes)) → GivesOne to written old new → Puts puts old new
+  puts_given to written old new may run = keeps_puts IsTemporary (IsGiven to written new) Nothing puts
+      (λ path bytes is. subst (λ (p : List ℕ). puts p (Some bytes)) (sym is.here) (may bytes is.whole)) old new run
 
   -- one of them, whatever it answered
   pub puts_quiet : {T E : Type 0} (result : Result T E) (call : Call) (old new : List Answered)

@@ -1,3 +1,4 @@
+pub mod Apart
 pub mod Changed
 pub mod ChangedOver
 pub mod Digests

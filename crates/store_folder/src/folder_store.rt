@@ -3,6 +3,7 @@ ghost use Rattle.std.specs.Prelude.{◌≡◌, ◌⊎◌, [], true, false, ℕ, 
 ghost use Rattle.folders.specs.Disk.{IsOnDisk};
 ghost use Rattle.folders.specs.Files.{IsIn};
 ghost use Rattle.folders.specs.Placed.{WasRefused};
+ghost use Rattle.store_folder.specs.Apart.{AreApart, apart_changed, apart_kept};
 ghost use Rattle.store_folder.specs.Changed.{IsChangedIn};
 ghost use Rattle.store_folder.specs.ChangedOver.{changed_over, none_changed_in};
 ghost use Rattle.store_folder.specs.Digests.{HasSum, IsAsListed};
@@ -12,7 +13,6 @@ ghost use Rattle.store_folder.specs.Stays.{settled_over};
 ghost use Rattle.store_folder.specs.Temporary.{is_temporary};
 ghost use Rattle.stores.specs.Store.{never};
 
-use crate::digesting::digest_of;
 use crate::links::{Links, followed_in, refuse_linked_in, status_at};
 use crate::placing::{Tried, take_after, try_path};
 use crate::site::Site;
@@ -254,29 +254,6 @@ impl<'a, F: Folder> FolderStore<'a, F> {
         Ok(Placed::Placed)
     }
 
-    /// Whether a file has its name, by what the system answered, or something that is there is the same: a run that was killed may have
-    /// given the name to a file with the same bytes.
-    fn has_name(&self, answer: io::Result<()>, made_at: &str, path: &str) -> io::Result<bool> {
-        match answer {
-            Ok(()) => Ok(true),
-            Err(error) if error.kind() == ErrorKind::AlreadyExists => self.is_same(made_at, path),
-            Err(error) => Err(error),
-        }
-    }
-
-    /// Whether what is at a path is a regular file with the bytes of this one.
-    fn is_same(&self, made_at: &str, path: &str) -> io::Result<bool> {
-        let alloc = self.rt.alloc();
-        let length = self.files.status(made_at)?.length;
-        let links = Links::NotFollowed;
-        let made = open_fragment_in(&self.files, made_at, length, links)?;
-        let Ok(there) = open_fragment_in(&self.files, path, length, links) else {
-            return Ok(false);
-        };
-        let digest = digest_of(alloc, &made, length as usize)?;
-        Ok(digest_of(alloc, &there, length as usize)? == digest)
-    }
-
     /// Notes that a name was given in a folder.
     pub(crate) fn touch(&mut self, folder: &str) -> Result<(), AllocError>
         ensures site { self.new.site ≡ self.old.site }
@@ -329,10 +306,18 @@ impl<F: Folder> Store for FolderStore<'_, F> {
 
     ghost settled = { λ s stripe place written. IsSettled s.site stripe place written (F.calls s.files) };
 
+    ghost apart = { λ s. AreApart s.site };
+
     ghost new_shown = { λ s f h. never h };
 
     ghost changed_then = { λ stripe given more all old mid new leads widens changes keeps. changed_over stripe given more all old.site
         mid.site new.site (F.calls old.files) (F.calls mid.files) (F.calls new.files) leads widens changes keeps };
+
+    ghost kept_apart = { λ stripe given old new kept. apart_kept stripe given old.site new.site (F.calls old.files) (F.calls new.files)
+        kept };
+
+    ghost changed_apart = { λ stripe given old new changed. apart_changed stripe given old.site new.site (F.calls old.files)
+        (F.calls new.files) changed };
 
     ghost settled_stays = { λ stripe given old new kept. settled_over stripe given old.site new.site (F.calls old.files)
         (F.calls new.files) kept };

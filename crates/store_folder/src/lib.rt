@@ -4,6 +4,7 @@
 mod described;
 mod digesting;
 mod disks;
+mod exchanging;
 mod expecting;
 mod folder_store;
 mod giving;
@@ -17,6 +18,7 @@ mod listing;
 mod placing;
 mod regular;
 mod replacing;
+mod same;
 mod separate;
 mod site;
 mod stripe_names;
@@ -31,6 +33,7 @@ mod writing;
 pub use described::read_description;
 pub use digesting::{digest_of, digests_of};
 pub use disks::Unlisted;
+pub use exchanging::exchange_new;
 pub use expecting::expect_listed;
 pub use folder_store::FolderStore;
 pub use folders::{Identity, SystemFolder, SystemNew, SystemOpen, folder_of, is_absent};
@@ -39,7 +42,9 @@ pub use laws::goes_on;
 pub use leaving::left_in;
 pub use links::{Links, followed, look_at, refuse_linked_folders};
 pub use listing::{Listing, list};
-pub use placing::{NewFile, create_new, discard_new, place_again, place_new, sync_folder};
+pub use placing::{
+    NewFile, create_new, create_private, discard_new, place_again, place_new, sync_folder,
+};
 pub use regular::{RegularFile, is_named, open_as, open_regular};
 pub use separate::{SeparateFile, SeparateStore};
 pub use site::Site;

@@ -6,9 +6,11 @@ use crate::digesting::{digests_of, refusal_of};
 use crate::folder_store::FolderStore;
 use crate::surviving::FileFragment;
 use crate::unfinished_file::UnfinishedFile;
-use folders::Folder;
+use folders::{Folder, OpenFile};
 use lrc_code::Place;
 use std::alloc::{AllocError, Global};
+use std::io;
+use store_records::Digest;
 use stores::Refused;
 
 impl<F: Folder> FolderStore<'_, F> {
@@ -41,22 +43,41 @@ impl<F: Folder> FolderStore<'_, F> {
         length: usize,
         fragments: &[Option<FileFragment<F::Open>>],
     ) -> Result<Vec<Refused>, AllocError> {
-        let mut refused = Vec::new(alloc);
         let sums = self.site.sums_of(alloc, stripe)?;
-        let mut held = Vec::with_capacity(alloc, fragments.len())?;
-        for (fragment, sum) in fragments.iter().zip(sums.iter()) {
-            held.push(match sum {
-                Some(_) => fragment.as_ref(),
-                None => None,
-            })?;
-        }
+        let held = listed_of(alloc, fragments, sums.as_slice())?;
         let digests = digests_of(alloc, held.as_slice(), length)?;
-        for (place, (digest, sum)) in Place::ALL.iter().zip(digests.into_iter().zip(sums.iter())) {
-            if let Some(error) = refusal_of(digest, sum) {
-                let place = *place;
-                refused.push(Refused { place, error })?;
-            }
-        }
-        Ok(refused)
+        refusals(alloc, digests, sums.as_slice())
     }
+}
+
+/// The fragments of which the sums say a digest.
+fn listed_of<'f, O: OpenFile>(
+    alloc: Global,
+    fragments: &'f [Option<FileFragment<O>>],
+    sums: &[Option<Digest>],
+) -> Result<Vec<Option<&'f FileFragment<O>>>, AllocError> {
+    let mut held = Vec::with_capacity(alloc, fragments.len())?;
+    for (fragment, sum) in fragments.iter().zip(sums.iter()) {
+        held.push(match sum {
+            Some(_) => fragment.as_ref(),
+            None => None,
+        })?;
+    }
+    Ok(held)
+}
+
+/// Which fragments are refused, by their digests and those that the sums say, both by the places' indexes.
+fn refusals(
+    alloc: Global,
+    digests: Vec<Option<io::Result<Digest>>>,
+    sums: &[Option<Digest>],
+) -> Result<Vec<Refused>, AllocError> {
+    let mut refused = Vec::new(alloc);
+    for (place, (digest, sum)) in Place::ALL.iter().zip(digests.into_iter().zip(sums.iter())) {
+        if let Some(error) = refusal_of(digest, sum) {
+            let place = *place;
+            refused.push(Refused { place, error })?;
+        }
+    }
+    Ok(refused)
 }

@@ -42,21 +42,11 @@ pub struct Listing {
 
 /// Lists the folder at a path. Names that don't fit its pattern are left alone. A folder in it that can't be listed costs what is in it.
 pub fn list(rt: &HostRuntime, folder: &str, wanted: &Wanted<'_>) -> io::Result<Listing> {
-    let alloc = rt.alloc();
     let mut listing = Listing::new(rt, wanted)?;
-    let own = listing.entries(rt, folder, "", wanted)?;
-    match disk_folders(alloc, &wanted.pattern, wanted.code)? {
-        Some(disks) => {
-            for name in &own {
-                listing.add_own(rt, folder, wanted, name.as_str())?;
-            }
-            for disk in &disks {
-                listing.add_disk(rt, folder, wanted, disk.as_str())?;
-            }
-        }
-        None => listing.add_below(rt, folder, wanted, own)?,
+    match listing.add_all(rt, folder, wanted) {
+        Ok(()) => Ok(listing),
+        Err(error) => Err(error),
     }
-    Ok(listing)
 }
 
 impl Listing {
@@ -78,6 +68,21 @@ impl Listing {
             is_ambiguous,
             looks_at_all: is_ambiguous || may_be_fragment,
         })
+    }
+
+    /// Adds all that is in the store's folder, and below it where fragments are there.
+    fn add_all(&mut self, rt: &HostRuntime, folder: &str, wanted: &Wanted<'_>) -> io::Result<()> {
+        let own = self.entries(rt, folder, "", wanted)?;
+        let Some(disks) = disk_folders(rt.alloc(), &wanted.pattern, wanted.code)? else {
+            return self.add_below(rt, folder, wanted, own);
+        };
+        for name in &own {
+            self.add_own(rt, folder, wanted, name.as_str())?;
+        }
+        for disk in &disks {
+            self.add_disk(rt, folder, wanted, disk.as_str())?;
+        }
+        Ok(())
     }
 
     /// Adds what is under a name in the store's own folder, where fragments are in others.

@@ -1,5 +1,6 @@
 //! Putting new files in their places. A file has no name that a fragment can have until it is whole and on the disk.
-ghost use Rattle.std.specs.Prelude.{◌≡◌, [], IfOk, IsOkAnd, IsSome, MatchResult, OnOk, Some, false, true, string_bytes};
+ghost use Rattle.std.specs.Prelude.{◌≡◌, [], IfOk, IsOkAnd, IsSome, IsSomeAnd, MatchResult, OnOk, Some, false, true, string_bytes};
+ghost use Rattle.folders.specs.Disk.{HasWhole};
 ghost use Rattle.folders.specs.Placed.{HasPath, WasRefused};
 ghost use Rattle.store_folder.specs.Kept.{GivesOne, KeepsEach};
 ghost use Rattle.store_folder.specs.Placed.{IsPlacedAt, content_of, outcome_by};
@@ -10,7 +11,6 @@ use crate::unfinished::{Unfinished, create_unfinished};
 use folders::{
     Folder, NewFile as _, Rights, SystemFolder, SystemNew, place, place_over, remove_temporary,
 };
-use std::alloc::Global;
 use std::fs::{self, Metadata};
 use std::io::{self, ErrorKind};
 use std::os::unix::fs::MetadataExt;
@@ -52,18 +52,6 @@ impl<N: folders::NewFile> NewFragment for NewFile<N> {
 }
 
 impl NewFile {
-    /// A new file in a folder, with the rights that the user's mask leaves it.
-    pub fn create_as_user(rt: &HostRuntime, alloc: Global, folder: &str) -> io::Result<NewFile> {
-        create_new(rt, &mut SystemFolder::new(rt), folder)
-    }
-
-    /// A new file in a folder, which nobody but its user may read.
-    pub fn create_private(rt: &HostRuntime, alloc: Global, folder: &str) -> io::Result<NewFile> {
-        Ok(NewFile {
-            unfinished: create_unfinished(rt, &mut SystemFolder::new(rt), folder, "", PRIVATE)?,
-        })
-    }
-
     /// Gives the file the owner, the group and the rights to read and write of another one. Who may not give it away keeps it as it is.
     /// Says whether it was given.
     pub fn take_after(&self, other: &Metadata) -> io::Result<bool> {
@@ -97,6 +85,20 @@ pub fn create_new<F: Folder>(
 {
     Ok(NewFile {
         unfinished: create_unfinished(rt, files, folder, "", OPEN)?,
+    })
+}
+
+/// A new file in a folder, which nobody but its user may read.
+pub fn create_private<F: Folder>(
+    rt: &HostRuntime,
+    files: &mut F,
+    folder: &str,
+) -> io::Result<NewFile<F::New>>
+    ensures whenever { KeepsEach (F.calls files.old) (F.calls files.new) }
+    ensures empty { IfOk result (λ new. content_of new ≡ Some []) }
+{
+    Ok(NewFile {
+        unfinished: create_unfinished(rt, files, folder, "", PRIVATE)?,
     })
 }
 
@@ -180,13 +182,21 @@ fn place_whole<F: Folder>(
     }
 }
 
-/// Writes a file to the disk and gives it the name at a path, in place of the file that has it, if one does.
-pub fn place_again(rt: &HostRuntime, new: NewFile, path: &str) -> io::Result<()> {
-    let mut files = SystemFolder::new(rt);
+/// Writes a file to the disk and gives it the name at a path, in place of the file that has it, if one does. Whenever that ends, the path
+/// has what it had, or all the bytes of the file, and no other path changes but temporary ones. The name may still have to be written to
+/// the disk.
+///
+/// # Errors
+///
+/// Bytes of the file are missing, or it couldn't be written to the disk or get the name. Then it is removed.
+pub fn place_again<F: Folder>(files: &mut F, new: NewFile<F::New>, path: &str) -> io::Result<()>
+    ensures whenever { PutsOne path.now (content_of new) (F.calls files.old) (F.calls files.new) }
+    ensures given { OnOk result (IsSomeAnd (content_of new) (λ bytes. HasWhole path.now bytes (F.calls files.new))) }
+{
     match new.unfinished.refuse_part() {
-        Ok(()) => place_whole_over(&mut files, new.unfinished, path),
+        Ok(()) => place_whole_over(files, new.unfinished, path),
         Err(error) => {
-            files.remove(new.path())?;
+            discard_new(files, new)?;
             Err(error)
         }
     }

@@ -19,7 +19,8 @@ use stores::Placed;
 impl<F: Folder> FolderStore<'_, F> {
     /// Gives a fragment the name of one that is there, which is kept under its second name; if one is kept there already, the new one is
     /// discarded. Whenever that ends, the fragment's path has what it had, or all the bytes of the new file, and then what was there is
-    /// at its second path. If it got its name, `sync_names` puts that on the disk.
+    /// at its second path. Whole files at other paths but temporary ones stay there. If it got its name, `sync_names` puts that on the
+    /// disk.
     pub fn replace_fragment(
         &mut self,
         file: UnfinishedFile<F::New>,
@@ -93,14 +94,14 @@ impl<F: Folder> FolderStore<'_, F> {
 
 /// What became of an unfinished file that was to get the path of another one. If it didn't, it still has the one that it was made at.
 #[derive(Drop)]
-struct Tried<W> {
-    made_at: String,
-    exchanged: io::Result<Exchanged<W>>,
+pub(crate) struct Tried<W> {
+    pub(crate) made_at: String,
+    pub(crate) exchanged: io::Result<Exchanged<W>>,
     ghost temporary: { is_temporary (string_bytes made_at) ≡ true },
 }
 
 /// Writes a file to the disk and gives it the path of another one, if no bytes of it are missing.
-fn try_exchange<F: Folder>(
+pub(crate) fn try_exchange<F: Folder>(
     files: &mut F,
     new: Unfinished<F::New>,
     path: &str,
@@ -140,7 +141,7 @@ fn exchange_whole<F: Folder>(
 }
 
 /// The second path of a fragment, of which is seen that it is no unfinished file's.
-fn second_of(alloc: Global, path: &str) -> io::Result<String>
+pub(crate) fn second_of(alloc: Global, path: &str) -> io::Result<String>
     ensures { IfOk result (λ s. (string_bytes s ≡ second_path path.now) × (is_temporary (string_bytes s) ≡ false)) }
 {
     let mut second = String::from_str(alloc, path)?;

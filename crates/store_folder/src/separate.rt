@@ -1,6 +1,7 @@
 //! A store in a folder in which each new fragment fails by itself: one that can't be made or written is refused when it is to get its name,
 //! so that the others of its stripe get theirs.
 ghost use Rattle.std.specs.Prelude.{◌≡◌, IfSome};
+ghost use Rattle.store_folder.specs.Apart.{AreApart, apart_changed, apart_kept};
 ghost use Rattle.store_folder.specs.Changed.{IsChangedIn};
 ghost use Rattle.store_folder.specs.ChangedOver.{changed_over, none_changed_in};
 ghost use Rattle.store_folder.specs.Digests.{HasSum};
@@ -119,11 +120,19 @@ impl<F: Folder> Store for SeparateStore<'_, F> {
 
     ghost settled = { λ s stripe place written. IsSettled s.store.site stripe place written (F.calls s.store.files) };
 
+    ghost apart = { λ s. AreApart s.store.site };
+
     ghost new_shown = { λ s f h. never h };
 
     ghost changed_then = { λ stripe given more all old mid new leads widens changes keeps. changed_over stripe given more all
         old.store.site mid.store.site new.store.site (F.calls old.store.files) (F.calls mid.store.files) (F.calls new.store.files)
         leads widens changes keeps };
+
+    ghost kept_apart = { λ stripe given old new kept. apart_kept stripe given old.store.site new.store.site (F.calls old.store.files)
+        (F.calls new.store.files) kept };
+
+    ghost changed_apart = { λ stripe given old new changed. apart_changed stripe given old.store.site new.store.site
+        (F.calls old.store.files) (F.calls new.store.files) changed };
 
     ghost settled_stays = { λ stripe given old new kept. settled_over stripe given old.store.site new.store.site (F.calls old.store.files)
         (F.calls new.store.files) kept };

@@ -268,28 +268,10 @@ impl StripeNames {
             described,
             alone: Vec::new(alloc),
         };
-        for (name, found) in files {
-            if stripes.describes(name.as_str(), &found, ending) {
-                continue;
-            }
-            let is_expected = expected.contains(name.as_str());
-            stripes.settle(alloc, code, name, found, is_expected)?;
-        }
-        for name in expected {
-            if !stripes.files.contains_key(name.as_str()) {
-                stripes.files.insert(name, StripeFiles::new())?;
-            }
-        }
-        for name in doubtful {
-            if stripes.files.contains_key(name.as_str()) {
-                stripes.described.insert(name)?;
-            }
-        }
-        for Alone { stripe, place } in blocked {
-            if let Some(files) = stripes.files.get_mut(stripe.as_str()) {
-                files.found[place.index()] = Found::Other;
-            }
-        }
+        stripes.settle_all(alloc, code, ending, files, &expected)?;
+        stripes.add_expected(expected)?;
+        stripes.add_doubtful(doubtful)?;
+        stripes.block(blocked);
         Ok(stripes)
     }
 }
@@ -318,6 +300,53 @@ impl StoreStripes {
             }
         };
         self.described.contains(stripe) && files.found.iter().all(is_short)
+    }
+
+    /// Takes the files of each name for those of a stripe, for its descriptions, or each for one that is alone.
+    fn settle_all(
+        &mut self,
+        alloc: Global,
+        code: Code,
+        ending: Option<&str>,
+        files: BTreeMap<String, StripeFiles>,
+        expected: &BTreeSet<String>,
+    ) -> Result<(), AllocError> {
+        for (name, found) in files {
+            if !self.describes(name.as_str(), &found, ending) {
+                let is_expected = expected.contains(name.as_str());
+                self.settle(alloc, code, name, found, is_expected)?;
+            }
+        }
+        Ok(())
+    }
+
+    /// Adds the stripes that are expected and of which nothing is there.
+    fn add_expected(&mut self, expected: BTreeSet<String>) -> Result<(), AllocError> {
+        for name in expected {
+            if !self.files.contains_key(name.as_str()) {
+                self.files.insert(name, StripeFiles::new())?;
+            }
+        }
+        Ok(())
+    }
+
+    /// Takes those stripes for described of which it was doubtful whether a file is of theirs.
+    fn add_doubtful(&mut self, doubtful: BTreeSet<String>) -> Result<(), AllocError> {
+        for name in doubtful {
+            if self.files.contains_key(name.as_str()) {
+                self.described.insert(name)?;
+            }
+        }
+        Ok(())
+    }
+
+    /// Notes the places at which something is that is no fragment.
+    fn block(&mut self, blocked: Vec<Alone>) {
+        for Alone { stripe, place } in blocked {
+            if let Some(files) = self.files.get_mut(stripe.as_str()) {
+                files.found[place.index()] = Found::Other;
+            }
+        }
     }
 
     /// Takes the files of a name for those of a stripe, or each for one that is alone.

@@ -57,31 +57,44 @@ pub fn open_store(rt: &HostRuntime, opening: &Opening<'_>) -> Result<OpenStore, 
     }
 }
 
+/// What is in the folder of a store, and in the one that rebuilt fragments are written to, if that isn't the store's.
+#[derive(Drop)]
+struct Listings {
+    listing: Listing,
+    target: Option<Listing>,
+}
+
+/// What is known of a store by what is in its folder, but for its digests.
+#[derive(Drop)]
+struct Known {
+    folder: String,
+    code: Code,
+    found: StoreStripes,
+    has_unlisted: bool,
+    unmounted: Vec<String>,
+}
+
 /// A store that is open, but for its locks.
 #[derive(Drop)]
 struct Unlocked {
-    folder: String,
-    code: Code,
-    listing: Listing,
-    found: StoreStripes,
-    target: Option<Listing>,
+    listings: Listings,
+    known: Known,
     sums: Option<Sums>,
-    has_unlisted: bool,
-    unmounted: Vec<String>,
 }
 
 impl Unlocked {
     /// The open store, with these locks.
     fn with(self, locks: Locks) -> OpenStore {
         let Unlocked {
-            folder,
-            code,
-            listing,
-            found,
-            target,
+            listings: Listings { listing, target },
+            known: Known {
+                folder,
+                code,
+                found,
+                has_unlisted,
+                unmounted,
+            },
             sums,
-            has_unlisted,
-            unmounted,
         } = self;
         OpenStore {
             folder,
@@ -128,7 +141,8 @@ fn end_of_links(rt: &HostRuntime, path: &str) -> Result<String, AllocError> {
     }
 }
 
-/// Opens a store, and looks out for paths that may be some of its own.
+/// Opens a store, and looks out for paths that may be some of its own. What was made is handed on by reference: a function proves at each
+/// of its ends that it drops all that it owns.
 fn open_watched(
     rt: &HostRuntime,
     opening: &Opening<'_>,
@@ -144,39 +158,100 @@ fn open_watched(
         links: opening.links,
         watched,
     };
-    let mut listing = listed(rt, opening.folder, &wanted)?;
-    let target = listed_target(rt, opening, &wanted)?;
-    refuse_watched(rt, &listing)?;
-    if let Some(target) = &target {
+    let mut listings = listings_of(rt, opening, &wanted)?;
+    match opened_in(rt, opening, locks, &wanted, &mut listings) {
+        Ok((known, sums)) => Ok(Unlocked {
+            listings,
+            known,
+            sums,
+        }),
+        Err(fault) => Err(fault),
+    }
+}
+
+/// Lists the folders of a store.
+fn listings_of(
+    rt: &HostRuntime,
+    opening: &Opening<'_>,
+    wanted: &Wanted<'_>,
+) -> Result<Listings, StoreFault> {
+    let listing = listed(rt, opening.folder, wanted)?;
+    match listed_target(rt, opening, wanted) {
+        Ok(target) => Ok(Listings { listing, target }),
+        Err(fault) => Err(fault),
+    }
+}
+
+/// What is known of a store whose folders were listed, and its digests, if it may be opened.
+fn opened_in(
+    rt: &HostRuntime,
+    opening: &Opening<'_>,
+    locks: &Locks,
+    wanted: &Wanted<'_>,
+    listings: &mut Listings,
+) -> Result<(Known, Option<Sums>), StoreFault> {
+    refuse_listed(rt, opening, locks, listings)?;
+    let sums = expected(rt, opening, wanted, &mut listings.listing)?;
+    match known_of(rt, opening, &mut listings.listing) {
+        Ok(known) => Ok((known, sums)),
+        Err(fault) => Err(fault),
+    }
+}
+
+/// Refuses a store by what is in its folders.
+fn refuse_listed(
+    rt: &HostRuntime,
+    opening: &Opening<'_>,
+    locks: &Locks,
+    listings: &Listings,
+) -> Result<(), StoreFault> {
+    let Listings { listing, target } = listings;
+    refuse_watched(rt, listing)?;
+    if let Some(target) = target {
         refuse_watched(rt, target)?;
     }
-    refuse_writing(rt, opening, locks, target.as_ref().unwrap_or(&listing))?;
-    let sums = expected(rt, opening, &wanted, &mut listing)?;
+    refuse_writing(rt, opening, locks, target.as_ref().unwrap_or(listing))
+}
+
+/// What is known of a store by what is in its folder.
+fn known_of(
+    rt: &HostRuntime,
+    opening: &Opening<'_>,
+    listing: &mut Listing,
+) -> Result<Known, StoreFault> {
     let code = match opening.code {
         Some(code) => code,
         None => listing.names.code(),
     };
-    refuse_other_code(rt, opening, &listing, code)?;
-    let has_unlisted = say_unlisted(rt, &listing, &opening.pattern, code)?;
-    let mut found = stripes_of(rt, opening, code, &mut listing)?;
+    refuse_other_code(rt, opening, listing, code)?;
+    let has_unlisted = say_unlisted(rt, listing, &opening.pattern, code)?;
+    let mut found = stripes_of(rt, opening, code, listing)?;
+    let unmounted = left_out(rt, opening, code, &mut found)?;
+    Ok(Known {
+        folder: String::from_str(rt.alloc(), opening.folder)?,
+        code,
+        found,
+        has_unlisted,
+        unmounted,
+    })
+}
+
+/// The folders of disks that aren't mounted, whose stripes' files are taken from what was found.
+fn left_out(
+    rt: &HostRuntime,
+    opening: &Opening<'_>,
+    code: Code,
+    found: &mut StoreStripes,
+) -> Result<Vec<String>, StoreFault> {
     let unmounted = left_alone(rt, opening, code)?;
     leave_alone(
         rt.alloc(),
         &opening.pattern,
         code,
         unmounted.as_slice(),
-        &mut found,
-    )?;
-    Ok(Unlocked {
-        folder: String::from_str(rt.alloc(), opening.folder)?,
-        code,
-        listing,
         found,
-        target,
-        sums,
-        has_unlisted,
-        unmounted,
-    })
+    )?;
+    Ok(unmounted)
 }
 
 /// What runs have left in the folder that rebuilt fragments are written to, if that isn't the store's.

@@ -2,15 +2,16 @@
 mod looking;
 mod remaking;
 
+use folders::Folder;
 use looking::Seen;
 use remaking::described_as;
 use std::alloc::AllocError;
-use std::fs::{self, Metadata};
+use std::fs::Metadata;
 use std::io::{self, ErrorKind};
 use store_faults::{Copies, CopyFinding, CopyReason, Descriptions, FoundCopy};
 use store_folder::{
-    Described, KEPT, NewFile, Placed, Site, SystemFolder, folder_of, path_in, place_again,
-    place_new, refuse_linked_folders, sync_folder,
+    Described, NewFile, Placed, Site, SystemFolder, create_private, exchange_new, folder_of,
+    path_in, place_new, refuse_linked_folders,
 };
 use store_repair::NewFragment;
 
@@ -179,17 +180,18 @@ fn make(
     let path = path_in(alloc, site.target, name)?;
     let path = path.as_str();
     let text = described.text(alloc)?;
-    let mut file = NewFile::create_private(rt, alloc, folder_of(path))?;
+    let files = &mut SystemFolder::new(rt);
+    let mut file = create_private(rt, files, folder_of(path))?;
     if let Err(error) = fill(&mut file, text.as_bytes(), like) {
         file.discard(rt)?;
         return Err(error);
     }
     let placed = if replaces && site.target == site.folder {
-        replace(rt, file, path)?
+        exchange_new(rt, files, file, path)?
     } else {
-        place_new(&mut SystemFolder::new(rt), file, path)?
+        place_new(files, file, path)?
     };
-    sync_folder(rt, folder_of(path))?;
+    files.sync_folder(folder_of(path))?;
     Ok(placed)
 }
 
@@ -200,23 +202,4 @@ fn fill(file: &mut NewFile, text: &[u8], like: Option<&Metadata>) -> io::Result<
         file.take_after(like)?;
     }
     Ok(())
-}
-
-/// Gives a file the name of another one, which is kept.
-fn replace(rt: &HostRuntime, file: NewFile, path: &str) -> io::Result<Placed> {
-    let mut kept = String::from_str(rt.alloc(), path)?;
-    kept.push_str(KEPT)?;
-    match fs::hard_link(rt, path, kept.as_str()) {
-        Ok(()) => {
-            place_again(rt, file, path)?;
-            Ok(Placed::Placed)
-        }
-        Err(error) => {
-            file.discard(rt)?;
-            if error.kind() == ErrorKind::AlreadyExists {
-                return Ok(Placed::IsThere);
-            }
-            Err(error)
-        }
-    }
 }

@@ -13,6 +13,7 @@ use lrc_code::Code;
 use output::write_out;
 use store_faults::FileFault;
 use store_files::{Sought, StoredFile, descriptions_of, first_described, is_begun, staged_name};
+use store_folder::SystemFolder;
 
 /// What is done with a file that is read.
 #[derive(Clone, Copy)]
@@ -61,7 +62,9 @@ fn read_fitting(
         let is_read = match output {
             ReadTo::Nothing => set_that_fits(rt, &sought, &fragments)?.is_some(),
             ReadTo::StandardOutput => print_fitting(rt, &sought, &fragments)?,
-            ReadTo::Path(path) => write_at(rt, &sought, &fragments, path)?,
+            ReadTo::Path(path) => {
+                write_at(rt, &mut SystemFolder::new(rt), &sought, &fragments, path)?
+            }
         };
         if is_read {
             return Ok(());

@@ -1,7 +1,7 @@
 -- Fragments that are given to places of a stripe.
-use Rattle.std.proofs.Common.{◌≡◌, ◌∙◌, ◌<◌, ℕ, zero, suc, List, [], ◌∷◌, ◌++◌, Bool, true, false, cond, refl, sym, ap, subst, arith}
+use Rattle.std.proofs.Common.{◌≡◌, ◌∙◌, ◌<◌, ◌+◌, ℕ, zero, suc, List, [], ◌∷◌, ◌++◌, Bool, true, false, cond, refl, sym, ap, subst, arith}
 use Rattle.std.proofs.Common.{inl, inr, get_or, length, All, Option, Some, None, IfSome, Result, Ok, Err}
-use Rattle.std.specs.Prelude.{◌&&◌, IfOk}
+use Rattle.std.specs.Prelude.{◌&&◌, ◌⊎◌, IfOk}
 use Rattle.std.specs.declared.io.Error.{Error}
 use Rattle.std.proofs.lemmas.Bool.{cases_Bool}
 use Rattle.std.proofs.lemmas.List.Elements.{All-push}
@@ -9,7 +9,7 @@ use Rattle.lrc_code.specs.declared.places.Place.{Place}
 use Rattle.lrc_code.specs.declared.codes.Code.{Code as CodeName}
 use Rattle.lrc_code.specs.Places.{same_place}
 use Rattle.lrc_code.proofs.PlaceSums.{same_place-eq, same_place-refl}
-use Rattle.stores.specs.Kept.{Given, StaysOver, nothing}
+use Rattle.stores.specs.Kept.{Given, StaysBeside, StaysOver, nothing}
 use Rattle.store_repair.specs.Kept.{AreDone, FitOnly, IsRepaired, given_by}
 use Rattle.store_repair.specs.Opened.{AreApart, AreMade, AreOnlyOnes, IsOnlyOne}
 use Rattle.store_repair.specs.Repaired.{IsPlaced}
@@ -133,9 +133,24 @@ module _ (s : List ℕ) (given : Given) (places : List Place) (old new : List �
   pub all_over : All (λ p. new s p (given p)) places
   all_over k d lt = stays s (get_or places k d) (given (get_or places k d)) (are k d lt)
 
-  pub all_more : (p : Place) (bytes : Option (List ℕ)) → given p ≡ bytes → new s p bytes
-      → All (λ q. new s q (given q)) (places ++ (p ∷ []))
-  all_more p bytes is has = All-push (λ q. new s q (given q)) places p all_over (subst (new s p) (sym is) has)
+-- the same where a place of those that wait got its name, and what is so of others stays
+module _ (s : List ℕ) (given : Given) (places : List Place) (n : ℕ) (p : Place) (put : List Place)
+    (old new : List ℕ → Place → Option (List ℕ) → Type 0) (here : (d : Place) → get_or places n d ≡ p)
+    (far : All (λ q. (k : ℕ) (d : Place) → k < n + 1 → same_place (get_or places k d) q ≡ false) put)
+    (stays : StaysBeside s p old new) (are : All (λ q. old s q (given q)) put) where
+  pub all_beside : All (λ q. new s q (given q)) put
+  all_beside i d lt =
+      stays (get_or put i d) (given (get_or put i d))
+      (subst (λ r. same_place r (get_or put i d) ≡ false) (here p) (far i d lt n p (omega arith))) (are i d lt)
+
+  pub all_more : (bytes : Option (List ℕ)) → given p ≡ bytes → new s p bytes → All (λ q. new s q (given q)) (put ++ (p ∷ []))
+  all_more bytes is has = All-push (λ q. new s q (given q)) put p all_beside (subst (new s p) (sym is) has)
+
+-- what is so of other places stays where all does, or names are apart
+pub beside_either : (s : List ℕ) (p : Place) (off apart : Type 0) (old new : List ℕ → Place → Option (List ℕ) → Type 0)
+    → (off → StaysOver old new) → (apart → StaysBeside s p old new) → off ⊎ apart → StaysBeside s p old new
+beside_either s p off apart old new over beside (inl is) = λ q bytes other had. over is s q bytes had
+beside_either s p off apart old new over beside (inr are) = beside are
 
 -- a fragment that got its name
 pub if_placed : (r : Result PlacedName Error) (P : Type 0) → IfOk r (λ x. x ≡ placed.Placed → P) → IsPlaced r → P
@@ -145,3 +160,13 @@ if_placed (Err e) P so is = absurd is
 
 pub off_with : (r c : Bool) → r ≡ false → (r && c) ≡ false
 off_with r c off = rw off refl
+
+-- where nothing is replaced, or names are apart, it is so after calls that gave nothing
+module _ {S : Type 0} (kept : List ℕ → Given → S → S → Type 0) (same : (stripe : List ℕ) (given : Given) (s : S) → kept stripe given s s)
+    (apart : S → Type 0) (stay : (stripe : List ℕ) (given : Given) (old new : S) → kept stripe given old new → apart old → apart new) where
+  pub either_after : (r c : Bool) (stripe : List ℕ) (old new : S)
+      → ((given : Given) (from : S) → kept stripe given from old → kept stripe given from new)
+      → (r ≡ false) ⊎ apart old → ((r && c) ≡ false) ⊎ apart new
+  either_after r c stripe old new keeps (inl off) = inl (off_with r c off)
+  either_after r c stripe old new keeps (inr are) =
+      inr (stay stripe nothing old new (keeps nothing old (same stripe nothing old)) are)

@@ -5,7 +5,7 @@ ghost use Rattle.lrc_code.specs.Sets.{is_in};
 ghost use Rattle.store_repair.specs.Findings.{is_unsettled, named};
 ghost use Rattle.stores.specs.Changed.{GivesOneMore};
 ghost use Rattle.store_repair.specs.Changed.{ChangesAmong};
-ghost use Rattle.stores.specs.Kept.{Given, StaysOver, nothing};
+ghost use Rattle.stores.specs.Kept.{Given, StaysBeside, StaysOver, nothing};
 ghost use Rattle.store_repair.specs.Kept.{given_by};
 ghost use Rattle.store_repair.specs.Opened.{AreApart, IsPutOf};
 ghost use Rattle.store_repair.specs.Repaired.{HasCause, IsPlaced, MayReplace, OnlyReplaces, SameBeside, is_silent, replaces};
@@ -44,6 +44,8 @@ pub(crate) struct Known<'k> {
 }
 
 /// Gives rebuilt fragments their names, and says which of them have them. What is found then is noted apart from what was known before.
+/// If none of that says that something is unsettled, those that have their names are on the disk under them, where nothing is replaced, or
+/// no two of the stripe's names lead to one file.
 pub(crate) fn put_all<S: Store>(
     alloc: Global,
     store: &mut S,
@@ -69,8 +71,9 @@ pub(crate) fn put_all<S: Store>(
         v.items) }
     ensures all { IfOk result (λ v. All (λ p. Contains v.items p ⊎ Contains (named known.now.findings.now ++ named later.new.items) p)
         made.places.items) }
-    ensures done { (repair.now.replace_damaged && known.now.is_checked) ≡ false → IfOk result (λ v. is_unsettled later.new.items ≡ false
-        → All (λ p. S.settled store.new stripe.now.name.now p (given_by S.New.shown made.places.items made.files.items p)) v.items) }
+    ensures done { ((repair.now.replace_damaged && known.now.is_checked) ≡ false) ⊎ S.apart store.old
+        → IfOk result (λ v. is_unsettled later.new.items ≡ false → All (λ p. S.settled store.new stripe.now.name.now p
+        (given_by S.New.shown made.places.items made.files.items p)) v.items) }
 {
     let places = made.places;
     let mut left = made.files;
@@ -152,7 +155,8 @@ fn is_of_device(findings: &[Finding], place: Place) -> bool {
     noted.is_some_and(|finding| finding.reason.is_of_device())
 }
 
-/// Gives a rebuilt fragment its name in this way, and says whether it has it.
+/// Gives a rebuilt fragment its name in this way, and says whether it has it. Names that others got before stay theirs, where nothing is
+/// replaced, or no two of the stripe's names lead to one file.
 fn put_one<S: Store>(
     store: &mut S,
     stripe: &Stripe<'_>,
@@ -171,7 +175,8 @@ fn put_one<S: Store>(
     ensures grows { OnOk result ((p : Place) → Contains (named findings.old.items) p → Contains (named findings.new.items) p) }
     ensures said { IfOk result (λ b. b ≡ false → is_silent way ≡ false → Contains (named findings.new.items) place) }
     ensures others { replaces way ≡ false → StaysOver (S.got_name store.old) (S.got_name store.new) }
-    ensures named { replaces way ≡ false → IfOk result (λ b. b ≡ true → S.got_name store.new stripe.now.name.now place (S.New.shown file)) }
+    ensures beside { S.apart store.old → StaysBeside stripe.now.name.now place (S.got_name store.old) (S.got_name store.new) }
+    ensures named { IfOk result (λ b. b ≡ true → S.got_name store.new stripe.now.name.now place (S.New.shown file)) }
 {
     match way {
         Way::Place => {

@@ -1,5 +1,5 @@
 //! Repairing a stripe of a store: each lost fragment is rebuilt, with all checks that the survivors allow, and gets its name.
-ghost use Rattle.std.specs.Prelude.{◌≡◌, ◌≢◌, [], IfNone, IfOk, IfSome, false, true};
+ghost use Rattle.std.specs.Prelude.{◌≡◌, ◌≢◌, ◌⊎◌, [], IfNone, IfOk, IfSome, false, true};
 ghost use Rattle.lrc_code.specs.declared.places.Place.{Place};
 ghost use Rattle.store_repair.specs.declared.settings.Reads.TheVariants.{All as ReadsAll, Checked as ReadsChecked};
 ghost use Rattle.store_repair.specs.Findings.{AreAllMended, is_unsettled};
@@ -23,7 +23,8 @@ use std::alloc::{AllocError, Global};
 use stores::{Store, Stripe};
 
 /// Repairs a stripe. A survivor that is known to be damaged or can't be read is left out, and the others are tried again. Where survivors
-/// contradict each other and it isn't known which are damaged, nothing is rebuilt.
+/// contradict each other and it isn't known which are damaged, nothing is rebuilt. If no finding says that something is unsettled, what is
+/// said to be rebuilt is on the disk under its name, where nothing is to be replaced, or no two of the stripe's names lead to one file.
 pub fn repair_stripe<S: Store>(
     alloc: Global,
     store: &mut S,
@@ -45,7 +46,7 @@ pub fn repair_stripe<S: Store>(
         repair.now.code (is_in o.survivors) o.rebuilt.items o.findings.items) }
     ensures rebuilt { IfOk result (λ o. AreRebuilt repair.now.code (is_in o.survivors) o.length stripe.now.name.now (S.files store.old)
         (S.files store.new) o.rebuilt.items) }
-    ensures done { repair.now.replace_damaged ≡ false → IfOk result (λ o. is_unsettled o.findings.items ≡ false
+    ensures done { (repair.now.replace_damaged ≡ false) ⊎ S.apart store.old → IfOk result (λ o. is_unsettled o.findings.items ≡ false
         → AreDone S.settled repair.now.code stripe.now.name.now (S.files store.old) store.new o.rebuilt.items) }
 {
     let mut findings = Vec::new(alloc);

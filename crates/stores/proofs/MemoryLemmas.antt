@@ -9,7 +9,7 @@ use Rattle.lrc_code.specs.Places.{same_place}
 use Rattle.lrc_code.proofs.PlaceSums.{same_place-eq, same_place-refl}
 use Rattle.std.specs.declared.io.Error.{Error}
 use Rattle.stores.specs.Changed.{ChangesOrHas, GivesOneMore}
-use Rattle.stores.specs.Kept.{Given, HasBytes, KeepsOrHas, StaysOver}
+use Rattle.stores.specs.Kept.{Given, HasBytes, KeepsOrHas, StaysBeside, StaysOver}
 use Rattle.stores.proofs.GivenLemmas.{more_are, more_off, more_on, one_more}
 use Rattle.stores.specs.Memory.{ExchangesName, GivesName, put_name, with_fragment, with_kept, with_old}
 use Rattle.stores.specs.Store.{AreUntouched, Files, HasName, IsUntouched, KeepsAll, Names, SameElsewhere}
@@ -195,6 +195,18 @@ exchanged_placed (Ok placed.Placed) s p bytes old new (none, is) =
     ap (λ (f : Files). f.fragments s p) is ∙ put_own (with_old old s p (old.fragments s p)).fragments s p bytes
 exchanged_placed (Ok placed.IsThere) s p bytes old new so = tt
 exchanged_placed (Err e) s p bytes old new so = tt
+
+pub exchanged_beside : (r : Result PlacedName Error) (s : List ℕ) (p : Place) (bytes : List ℕ) (old new : Files)
+    → ExchangesName r s p bytes old new → StaysBeside s p (HasBytes old) (HasBytes new)
+exchanged_beside r s p bytes old new so =
+    λ q shown apart has. (has.0, has.1, exchanged_elsewhere r s p bytes old new so q apart ∙ has.2)
+
+pub exchanged_named : (r : Result PlacedName Error) (s : List ℕ) (p : Place) (bytes : List ℕ) (old new : Files)
+    → ExchangesName r s p bytes old new → IfOk r (λ x. x ≡ placed.Placed → HasBytes new s p (Some bytes))
+exchanged_named (Ok placed.Placed) s p bytes old new so =
+    λ is. (bytes, refl, exchanged_placed (Ok placed.Placed) s p bytes old new so)
+exchanged_named (Ok placed.IsThere) s p bytes old new so = λ is. absurd (cc)
+exchanged_named (Err e) s p bytes old new so = tt
 
 -- ---- names that were exchanged or given, one after the other
 

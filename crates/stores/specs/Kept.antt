@@ -1,5 +1,5 @@
 -- What calls on a stripe of a store leave that replace nothing, whenever they end.
-use Rattle.std.specs.Prelude.{◌≡◌, ◌⊎◌, ℕ, List, true, bytes_eq, if◌then◌else◌, Option, Some, None}
+use Rattle.std.specs.Prelude.{◌≡◌, ◌⊎◌, ℕ, List, true, false, bytes_eq, if◌then◌else◌, Option, Some, None}
 use Rattle.std.proofs.Common.{◌∙◌, inl, inr, refl, sym}
 use Rattle.lrc_code.specs.declared.places.Place.{Place}
 use Rattle.lrc_code.specs.Places.{same_place}
@@ -31,6 +31,12 @@ unchanged stripe given files = record { names = λ s p. inl refl; seconds = λ s
 -- what was so of stripes' fragments and their bytes is so afterwards
 abbrev pub StaysOver : (List ℕ → Place → Option (List ℕ) → Type 0) → (List ℕ → Place → Option (List ℕ) → Type 0) → Type 0
 StaysOver old new = (stripe : List ℕ) (place : Place) (bytes : Option (List ℕ)) → old stripe place bytes → new stripe place bytes
+
+-- what was so of a stripe's fragments at other places than this one is so afterwards
+abbrev pub StaysBeside : List ℕ → Place → (List ℕ → Place → Option (List ℕ) → Type 0) → (List ℕ → Place → Option (List ℕ) → Type 0)
+    → Type 0
+StaysBeside stripe place old new =
+    (other : Place) (bytes : Option (List ℕ)) → same_place place other ≡ false → old stripe other bytes → new stripe other bytes
 
 -- a name has these bytes
 abbrev pub HasBytes : Files → List ℕ → Place → Option (List ℕ) → Type 0

@@ -2,7 +2,7 @@
 ghost use Rattle.std.specs.Prelude.{◌≡◌, ◌<◌, List, ℕ, IfOk, None, OnErr, OnOk, Some, drop, find, option_copied, option_map};
 ghost use Rattle.std.specs.Prelude.{false, refl, true, vec_len};
 ghost use Rattle.stores.specs.Changed.{ChangesOrHas, GivesOneMore, changed_kept, none_changed};
-ghost use Rattle.stores.specs.Kept.{Given, HasBytes, KeepsOrHas, StaysOver, still_has, unchanged};
+ghost use Rattle.stores.specs.Kept.{Given, HasBytes, KeepsOrHas, StaysBeside, StaysOver, still_has, unchanged};
 ghost use Rattle.lrc_code.specs.Code.{AreBytes};
 ghost use Rattle.lrc_code.specs.declared.places.Place.{Place};
 ghost use Rattle.stores.specs.Memory.{ExchangesName, GivesName, bytes_of, files_of, is_entry, names_of, put_name, with_fragment, with_kept};
@@ -221,6 +221,10 @@ impl Store for MemoryStore {
     ghost changed_then = { λ stripe given more all old mid new leads widens changes keeps. changed_kept stripe given more all (files_of old)
         (files_of mid) (files_of new) leads widens changes keeps };
 
+    ghost kept_apart = { λ stripe given old new keeps apart. tt };
+
+    ghost changed_apart = { λ stripe given old new changes apart. tt };
+
     ghost settled_stays = { λ stripe given old new keeps. still_has stripe given (files_of old) (files_of new) keeps };
 
     fn open(&self, stripe: &str, place: Place, length: usize) -> io::Result<MemoryFragment> {
@@ -285,6 +289,9 @@ impl Store for MemoryStore {
         ensures changed { (given : Given) (from : MemoryStore) → given place ≡ None → ChangesOrHas stripe.now given (files_of from)
             (files_of self.old) → GivesOneMore (λ name given old new. ChangesOrHas name given (files_of old) (files_of new)) stripe.now
             given place (Some (bytes_of file)) from self.new }
+        ensures beside { StaysBeside stripe.now place (HasBytes (files_of self.old)) (HasBytes (files_of self.new)) }
+        ensures named { IfOk result (λ placed. placed ≡ Placed.Placed → HasBytes (files_of self.new) stripe.now place
+            (Some (bytes_of file))) }
         ensures exchanges { ExchangesName result stripe.now place (bytes_of file) (files_of self.old) (files_of self.new) }
     {
         self.exchange_name(stripe, place, file.bytes)

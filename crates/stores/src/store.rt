@@ -2,7 +2,7 @@
 ghost use Rattle.std.specs.Prelude.{◌≡◌, ◌++◌, ℕ, List, Option, None, IfOk, OnOk, IsSome, true, false, option_map};
 ghost use Rattle.lrc_code.specs.declared.places.Place.{Place};
 ghost use Rattle.stores.specs.Changed.{GivesOneMore, IsAmong};
-ghost use Rattle.stores.specs.Kept.{Given, StaysOver, nothing};
+ghost use Rattle.stores.specs.Kept.{Given, StaysBeside, StaysOver, nothing};
 ghost use Rattle.stores.specs.Shown.{IsEmpty, IsReadAt};
 ghost use Rattle.stores.specs.Store.{AreUntouched, HasName, IsOpened, SameElsewhere, ShownFiles};
 
@@ -94,6 +94,9 @@ pub trait Store {
     /// So it did, and its name and its bytes are on the disk.
     ghost settled: { Self → List ℕ → Place → Option (List ℕ) → Type 0 };
 
+    /// No two of a stripe's names lead to one file.
+    ghost apart: { Self → Type 0 } = { λ _. Unit {0} };
+
     /// The store knows a digest of a stripe's fragment at a place, to which it holds what is to get that name.
     ghost listed: { Self → List ℕ → Place → Type 0 } = { λ _ _ _. ⊥ };
 
@@ -142,13 +145,16 @@ pub trait Store {
         ensures named { IfOk result (λ placed. placed ≡ Placed.Placed → got_name self.new stripe.now place (Self.New.shown file)) };
 
     /// Gives a fragment the name of one that is there, which is kept under its second name; if one is kept there already, the new one is
-    /// discarded. After a failure the name has the one fragment or the other.
+    /// discarded. After a failure the name has the one fragment or the other. Names that others got before stay theirs, where no two of the
+    /// stripe's names lead to one file.
     fn replace(&mut self, file: Self::New, stripe: &str, place: Place) -> io::Result<Placed>
         ensures untouched { AreUntouched true stripe.now (files self.old) (files self.new) }
         ensures elsewhere { SameElsewhere stripe.now place (files self.old) (files self.new) }
         ensures placed { IfOk result (HasName stripe.now place (Self.New.shown file) (files self.new)) }
         ensures changed { (given : Given) (from : Self) → given place ≡ None → changed stripe.now given from self.old
-            → GivesOneMore changed stripe.now given place (Self.New.shown file) from self.new };
+            → GivesOneMore changed stripe.now given place (Self.New.shown file) from self.new }
+        ensures beside { apart self.old → StaysBeside stripe.now place (got_name self.old) (got_name self.new) }
+        ensures named { IfOk result (λ placed. placed ≡ Placed.Placed → got_name self.new stripe.now place (Self.New.shown file)) };
 
     /// Discards a fragment that has no name. What can't be removed may be said by `settle`.
     fn discard(&mut self, file: Self::New) -> io::Result<()>
@@ -170,6 +176,12 @@ pub trait Store {
     /// After calls that may replace fragments, calls of the stripe that replace nothing.
     ghost changed_then: { (stripe : List ℕ) (given more all : Given) (old mid new : Self) → IsAmong given all → IsAmong more all
         → changed stripe given old mid → kept stripe more mid new → changed stripe all old new };
+
+    /// Names stay apart over a stripe's calls that replace nothing.
+    ghost kept_apart: { (stripe : List ℕ) (given : Given) (old new : Self) → kept stripe given old new → apart old → apart new };
+
+    /// So they do over those that may replace fragments.
+    ghost changed_apart: { (stripe : List ℕ) (given : Given) (old new : Self) → changed stripe given old new → apart old → apart new };
 
     /// What is on the disk stays there over a stripe's calls that replace nothing.
     ghost settled_stays: { (stripe : List ℕ) (given : Given) (old new : Self) → kept stripe given old new

@@ -1,5 +1,6 @@
 //! The command `repair`.
 use crate::commands::{counters_of, say_worked, test_opening_of};
+use crate::output::counters_file::CountersFile;
 use crate::output::row_stream::RowStream;
 use crate::output::{refuse_outputs, say_all, say_alone, say_summary};
 use crate::work::tasks::repair_task;
@@ -30,36 +31,54 @@ pub fn repair<R: Threads + Sync>(
     refuse_outputs(system, &options.test)?;
     let opening = opening_of(options);
     let store = open_store(system, &opening)?;
-    let stripes = store
-        .stripes(system)
-        .map_err(|_| refused(system, &store, FileFault::OutOfMemory))?;
-    if !options.dry_run {
-        refuse_long(system, store.code, stripes.as_slice()).map_err(|fault| refused(
-            system, &store, fault,
-        ))?;
+    match store.stripes(system) {
+        Ok(stripes) => repair_opened(rt, system, options, &opening, &store, stripes.as_slice()),
+        Err(AllocError) => Err(refused(system, &store, FileFault::OutOfMemory)),
     }
-    let repair = repair_of(store.code, options);
-    let task = repair_task(system.alloc(), &store, &repair, stripes.as_slice()).map_err(|_| refused(
-        system,
-        &store,
-        FileFault::OutOfMemory,
-    ))?;
-    let is_quiet = options.test.quiet || options.dry_run;
-    let counters = counters_of(system, task, is_quiet, &options.test, opening.folder).map_err(
-        |_| refused(system, &store, FileFault::OutOfMemory),
-    )?;
+}
+
+/// Repairs these stripes of an open store, and gives its locks back.
+fn repair_opened<R: Threads + Sync>(
+    rt: &R,
+    system: &HostRuntime,
+    options: &RepairOptions<'_>,
+    opening: &Opening<'_>,
+    store: &OpenStore,
+    stripes: &[Stripe<'_>],
+) -> Result<u8, FileFault> {
+    let counters = match counters_for(system, options, opening, store, stripes) {
+        Ok(counters) => counters,
+        Err(fault) => return Err(refused(system, store, fault)),
+    };
     let opened = Opened {
-        store: &store,
-        opening: &opening,
-        stripes: stripes.as_slice(),
+        store,
+        opening,
+        stripes,
         counters: &counters,
     };
     let status = repair_all(rt, system, opened, options);
-    let ended = ended(status, store.locks.release(system));
-    counters.end(
-        system,
-        ended.map_err(|error| device(system.alloc(), opening.folder, error)),
-    )
+    let ended = match ended(status, store.locks.release(system)) {
+        Ok(status) => Ok(status),
+        Err(error) => Err(device(system.alloc(), opening.folder, error)),
+    };
+    counters.end(system, ended)
+}
+
+/// The counters of a repair of these stripes, if no fragment that is lost is too long to be made.
+fn counters_for<'a>(
+    system: &HostRuntime,
+    options: &RepairOptions<'a>,
+    opening: &Opening<'a>,
+    store: &OpenStore,
+    stripes: &[Stripe<'_>],
+) -> Result<CountersFile<'a>, FileFault> {
+    if !options.dry_run {
+        refuse_long(system, store.code, stripes)?;
+    }
+    let repair = repair_of(store.code, options);
+    let task = repair_task(system.alloc(), store, &repair, stripes)?;
+    let is_quiet = options.test.quiet || options.dry_run;
+    Ok(counters_of(system, task, is_quiet, &options.test, opening.folder)?)
 }
 
 /// Gives the locks of a repair back that is refused before it begins, and says why it is.

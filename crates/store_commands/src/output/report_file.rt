@@ -1,7 +1,9 @@
 //! The file of a report.
 use std::fs::{self, File, Metadata};
 use std::io::{self, ErrorKind, Write};
-use store_folder::{NewFile, Placed, SystemFolder, folder_of, place_again, place_new};
+use store_folder::{
+    NewFile, Placed, SystemFolder, create_new, create_private, folder_of, place_again, place_new,
+};
 use store_progress::allow_file;
 use store_repair::NewFragment;
 
@@ -22,16 +24,18 @@ pub(crate) fn write_report(rt: &HostRuntime, path: &str, rows: &str) -> io::Resu
 /// Makes the file, if nothing is there.
 fn make(rt: &HostRuntime, path: &str, rows: &str) -> io::Result<Placed> {
     allow_file(rt, rows.len() as u64)?;
-    let file = NewFile::create_as_user(rt, rt.alloc(), folder_of(path))?;
+    let files = &mut SystemFolder::new(rt);
+    let file = create_new(rt, files, folder_of(path))?;
     let file = filled(rt, file, rows)?;
-    place_new(&mut SystemFolder::new(rt), file, path)
+    place_new(files, file, path)
 }
 
 /// Replaces a regular file by one with its owner and rights. Where no file can be made beside it, or who runs this can't give it that
 /// owner, it is written as it is.
 fn replace(rt: &HostRuntime, path: &str, there: &Metadata, rows: &str) -> io::Result<()> {
     allow_file(rt, rows.len() as u64)?;
-    let file = match NewFile::create_private(rt, rt.alloc(), folder_of(path)) {
+    let files = &mut SystemFolder::new(rt);
+    let file = match create_private(rt, files, folder_of(path)) {
         Ok(file) => file,
         Err(error) if error.kind() == ErrorKind::PermissionDenied => {
             return write_into(rt, path, rows);
@@ -40,7 +44,7 @@ fn replace(rt: &HostRuntime, path: &str, there: &Metadata, rows: &str) -> io::Re
     };
     let file = filled(rt, file, rows)?;
     match file.take_after(there) {
-        Ok(true) => place_again(rt, file, path),
+        Ok(true) => place_again(files, file, path),
         Ok(false) => {
             file.discard(rt)?;
             write_into(rt, path, rows)

@@ -1,5 +1,6 @@
 //! The copies of a file's description, which say that all of its stripe is there.
 ghost use Rattle.std.specs.Prelude.{◌≡◌, ◌∷◌, ◌++◌, IfOk, OnOk, Some, false};
+ghost use Rattle.sha2.specs.Sha256.{sha256};
 ghost use Rattle.store_folder.specs.Kept.{GivesOne, KeepsEach};
 ghost use Rattle.store_folder.specs.Placed.{content_of};
 ghost use Rattle.store_folder.specs.Temporary.{is_temporary};
@@ -8,9 +9,10 @@ ghost use Rattle.store_encoding.specs.Encoded.{AreThere, GivesEach, IsThereAt, e
 use crate::encoding::fragments::new_file;
 use crate::encoding::placing::{Made, place_one, sync_names};
 use folders::Folder;
+use sha2::{Digest as _, Sha256};
 use std::io;
 use store_faults::{FileFault, device};
-use store_files::{DigestAlone, Target};
+use store_files::Target;
 use store_folder::{Digest, NewFile, Touched, discard_new, folder_of};
 use store_repair::NewFragment;
 
@@ -105,9 +107,8 @@ fn filled<F: Folder>(
 }
 
 /// The digest of a text.
-fn digest_of_text(text: &str) -> Digest {
-    let mut digest = DigestAlone::new();
-    // It fails at nothing.
-    let _ = digest.append(text.as_bytes());
-    digest.finish()
+fn digest_of_text(text: &str) -> Digest
+    ensures { result ≡ sha256 text.now }
+{
+    Sha256::digest(text.as_bytes())
 }

@@ -6,7 +6,7 @@ ghost use Rattle.store_folder.specs.Placed.{content_of};
 ghost use Rattle.store_repair.specs.Mended.{AreEmpty};
 
 use crate::encoding::Given;
-use crate::encoding::placing::{Made, discard_all};
+use crate::encoding::placing::{Made, discard_all, first_of};
 use folders::Folder;
 use lrc_code::Place;
 use std::alloc::Global;
@@ -15,8 +15,8 @@ use std::thread::{Threads, join};
 use store_faults::{FileFault, device, source_fault};
 use store_files::Target;
 use store_folder::{
-    Digest, Links, NewFile, SystemFolder, create_new, digest_of, digests_of, folder_of,
-    open_fragment, refuse_linked_folders,
+    Digest, FileFragment, Links, NewFile, SystemFolder, SystemOpen, create_new, digest_of,
+    digests_of, folder_of, open_fragment, refuse_linked_folders,
 };
 use store_progress::CountedSource;
 use store_repair::{Fragment, MendFault, encode, fragment_length};
@@ -45,8 +45,8 @@ pub(crate) fn make_encoded<R: Threads + Sync>(
     match digest {
         Ok(digest) => Ok(Encoded { digest, made }),
         Err(fault) => {
-            discard_all(rt, &mut SystemFolder::new(rt), target.folder, made)?;
-            Err(fault)
+            let removed = discard_all(rt, &mut SystemFolder::new(rt), target.folder, made);
+            Err(first_of(removed, fault))
         }
     }
 }
@@ -93,10 +93,7 @@ fn make_fragments(
     let mut files = new_files(rt, target, name)?;
     let digests = match fill(rt, target, name, given, &source, files.as_mut_slice()) {
         Ok(digests) => digests,
-        Err(fault) => {
-            discard_files(rt, target, files)?;
-            return Err(fault);
-        }
+        Err(fault) => return Err(first_of(discard_files(rt, target, files), fault)),
     };
     for (file, digest) in files.into_iter().zip(digests) {
         made.push(Made { file, digest })?;
@@ -137,10 +134,7 @@ fn new_files(rt: &HostRuntime, target: &Target<'_>, stripe: &str) -> Result<Vec<
     'files: while files.len() < places.len() {
         match new_file_at(rt, target, stripe, places[files.len()]) {
             Ok(file) => files.push(file)?,
-            Err(fault) => {
-                discard_files(rt, target, files)?;
-                return Err(fault);
-            }
+            Err(fault) => return Err(first_of(discard_files(rt, target, files), fault)),
         }
     }
     Ok(files)
@@ -191,24 +185,43 @@ fn digests_at(
     files: &[NewFile],
     many: usize,
 ) -> Result<Vec<Digest>, FileFault> {
-    let alloc = rt.alloc();
-    let mut opened = Vec::with_capacity(alloc, files.len())?;
-    for file in files {
-        let fragment = open_fragment(rt, file.path(), many as u64, Links::NotFollowed);
-        opened.push(fragment.map_err(|error| device(alloc, target.folder, error))?)?;
+    match read_again(rt, files, many) {
+        Ok(digests) => Ok(digests),
+        Err(error) => Err(device(rt.alloc(), target.folder, error)),
     }
+}
+
+/// Reads new files of so many bytes again, and gives their digests.
+fn read_again(rt: &HostRuntime, files: &[NewFile], many: usize) -> io::Result<Vec<Digest>> {
+    let alloc = rt.alloc();
+    let opened = opened(rt, files, many)?;
     let mut fragments = Vec::with_capacity(alloc, opened.len())?;
     for fragment in &opened {
         fragments.push(Some(fragment))?;
     }
-    let mut digests = Vec::with_capacity(alloc, files.len())?;
-    for digest in digests_of(alloc, fragments.as_slice(), many)?
-        .into_iter()
-        .flatten()
-    {
-        digests.push(digest.map_err(|error| device(alloc, target.folder, error))?)?;
+    all_of(alloc, digests_of(alloc, fragments.as_slice(), many)?)
+}
+
+/// New files of so many bytes, open for reading.
+fn opened(
+    rt: &HostRuntime,
+    files: &[NewFile],
+    many: usize,
+) -> io::Result<Vec<FileFragment<SystemOpen>>> {
+    let mut opened = Vec::with_capacity(rt.alloc(), files.len())?;
+    for file in files {
+        opened.push(open_fragment(rt, file.path(), many as u64, Links::NotFollowed)?)?;
     }
-    Ok(digests)
+    Ok(opened)
+}
+
+/// All digests that could be made, or why one couldn't.
+fn all_of(alloc: Global, digests: Vec<Option<io::Result<Digest>>>) -> io::Result<Vec<Digest>> {
+    let mut all = Vec::with_capacity(alloc, digests.len())?;
+    for digest in digests.into_iter().flatten() {
+        all.push(digest?)?;
+    }
+    Ok(all)
 }
 
 /// Why a file can't be made in a folder, with what to do if that isn't there.

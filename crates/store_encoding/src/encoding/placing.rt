@@ -54,6 +54,17 @@ pub(crate) fn discard_all<F: Folder>(
     }
 }
 
+/// Why new files couldn't be removed, if they couldn't, or else why they were to be.
+pub(crate) fn first_of(removed: Result<(), FileFault>, fault: FileFault) -> FileFault {
+    match removed {
+        Ok(()) => fault,
+        Err(other) => {
+            drop(fault);
+            other
+        }
+    }
+}
+
 /// What is under the name at a path, beside a file of a length and a digest.
 fn what_is_there(
     rt: &HostRuntime,
@@ -93,10 +104,7 @@ pub(crate) fn place_fragments<F: Folder>(
             discard_all(rt, files, target.folder, made)?;
             Err(is_there_already(rt, name)?)
         }
-        Err(fault) => {
-            discard_all(rt, files, target.folder, made)?;
-            Err(fault)
-        }
+        Err(fault) => Err(first_of(discard_all(rt, files, target.folder, made), fault)),
     }
 }
 

@@ -66,22 +66,49 @@ pub(crate) fn finish_replacing(
     }
     let mut begun = StripeFiles::of(alloc, target, staged)?;
     let mut replaced = StripeFiles::of(alloc, target, name)?;
+    add_own_description(rt, target, name, &mut begun, &mut replaced)?;
+    replace_begun(rt, target, &file, name, &begun, &replaced)?;
+    Ok(remove_own_folders(rt, target, staged, name)?)
+}
+
+/// Adds the name of the description of a stripe in the store's own folder, if it has one, and beside it that of the stripe which is to
+/// replace it.
+fn add_own_description(
+    rt: &HostRuntime,
+    target: &Target<'_>,
+    name: &str,
+    begun: &mut StripeFiles,
+    replaced: &mut StripeFiles,
+) -> Result<(), FileFault> {
+    let alloc = rt.alloc();
     if let Some(own) = own_description(rt, target, name)? {
         // Nothing has the other name, so that it goes as an old fragment does whose new one was lost.
         replaced.fragments.push(own)?;
+        let staged = staged_name(alloc, name)?;
         begun
             .fragments
-            .push(first_description_name(alloc, staged)?)?;
+            .push(first_description_name(alloc, staged.as_str())?)?;
     }
+    Ok(())
+}
+
+/// Gives the files of a stripe that has been begun the names of those that it is to replace, if they are whole, and else removes them.
+fn replace_begun(
+    rt: &HostRuntime,
+    target: &mut Target<'_>,
+    file: &StoredFile<'_, '_>,
+    name: &str,
+    begun: &StripeFiles,
+    replaced: &StripeFiles,
+) -> Result<(), FileFault> {
     refuse_linked(rt, target, begun.descriptions.as_slice())?;
     refuse_linked(rt, target, begun.fragments.as_slice())?;
-    if !are_apart(target.folder, &begun, &replaced) {
+    if !are_apart(target.folder, begun, replaced) {
         return Err(no_name(rt, name)?);
     }
     let files = &mut SystemFolder::new(rt);
-    let is_whole = first_described(rt, &file)?.is_some();
-    end(rt, files, target, &begun, &replaced, is_whole)?;
-    Ok(remove_own_folders(rt, target, staged, name)?)
+    let is_whole = first_described(rt, file)?.is_some();
+    end(rt, files, target, begun, replaced, is_whole)
 }
 
 /// Gives the files of a stripe the names of another one's, if they are whole, writes the digests, and takes their own names away. At each

@@ -2,7 +2,7 @@
 use std::alloc::Global;
 use std::io::{self, ErrorKind, Read};
 use store_faults::{FileFault, device};
-use store_folder::NewFile;
+use store_folder::{NewFile, SystemFolder, create_private};
 use store_progress::{most_file_bytes, too_long};
 use store_repair::NewFragment;
 
@@ -19,7 +19,7 @@ impl Spool {
     /// Writes standard input to a new file in a folder, which nobody but its user may read.
     pub fn fill(rt: &HostRuntime, folder: &str) -> Result<Spool, FileFault> {
         let alloc = rt.alloc();
-        let file = NewFile::create_private(rt, alloc, folder);
+        let file = create_private(rt, &mut SystemFolder::new(rt), folder);
         let mut file = file.map_err(|error| device(alloc, folder, error))?;
         match copy(rt, &mut file, folder) {
             Ok(()) => Ok(Spool { file }),

@@ -1,18 +1,26 @@
 //! A file that is read, written to another file.
-ghost use Rattle.std.specs.Prelude.{◌≡◌, vec_len};
+ghost use Rattle.std.specs.Prelude.{◌≡◌, [], false, true, IfOk, IfSome, IsSomeAnd, None, OnOk, Some, vec_len};
+ghost use Rattle.folders.specs.Disk.{HasWhole, IsOnDisk};
+ghost use Rattle.store_folder.specs.Kept.{GivesOne, KeepsEach};
+ghost use Rattle.store_folder.specs.Placed.{content_of};
+ghost use Rattle.store_folder.specs.Temporary.{is_temporary};
+ghost use Rattle.store_folder.specs.Written.{PutsOne};
+ghost use Rattle.store_files.specs.Digests.{HasDigest};
+ghost use Rattle.store_reading.specs.Written.{HasFile, IsRight, PutsFile};
 
 use crate::reading::choosing::{set_that_fits, some_that_fit};
 use crate::reading::fragments::{Fragments, survivors_of};
 use crate::reading::output::{changed_meanwhile, write_into};
+use folders::Folder;
 use lrc_code::{Code, PlaceSet};
 use std::alloc::Global;
 use std::fs::{self, File, Metadata};
 use std::io::{self, ErrorKind};
 use store_faults::{FileFault, device};
-use store_files::{DigestedFile, Sought};
+use store_files::{Digested, Sought};
 use store_folder::{
-    Identity, NewFile, Placed, SystemFolder, folder_of, path_in, place_again, place_new,
-    sync_folder,
+    Identity, NewFile, Placed, SystemFolder, create_new, create_private, discard_new, folder_of,
+    path_in, place_again, place_new,
 };
 use store_names::stripe_folders;
 use store_progress::{Counted, refuse_over_limit};
@@ -28,13 +36,17 @@ pub fn passes_to(rt: &HostRuntime, path: &str) -> u64 {
 
 /// Writes the file to a path, if the fragments give it, and says whether they do. It gets its name when all of it is on the disk, and takes
 /// the place of a regular file, with the owner and the rights of that one; a device, a FIFO or what a link leads to is written as it is.
+/// Whenever that ends, the path has what it had, or all of a file of the described digest, and no other path changes but temporary ones.
 pub(crate) fn write_at(
     rt: &HostRuntime,
+    files: &mut SystemFolder<'_>,
     sought: &Sought<'_, '_>,
     fragments: &Fragments,
     path: &str,
 ) -> Result<bool, FileFault>
     requires { vec_len fragments.now.opened ≡ 16 }
+    ensures { PutsFile path.now sought.now.described.digest (⟦<SystemFolder<'static> as Folder>⟧.calls files.old)
+        (⟦<SystemFolder<'static> as Folder>⟧.calls files.new) }
 {
     let alloc = rt.alloc();
     refuse_in_store(rt, sought, path)?;
@@ -47,28 +59,75 @@ pub(crate) fn write_at(
     }
     match fs::symlink_metadata(rt, path) {
         Ok(there) if there.is_file() => {
-            let Some(file) = write_new(rt, sought, fragments, path, Some(&there))? else {
-                return Ok(false);
-            };
-            place_again(rt, file, path).map_err(|error| device(alloc, path, error))?;
+            write_whole(rt, files, sought, fragments, path, Some(&there))
         }
-        Ok(_) => return write_through(rt, sought, fragments, path),
+        Ok(_) => write_through(rt, sought, fragments, path),
         Err(error) if error.kind() == ErrorKind::NotFound => {
-            let Some(file) = write_new(rt, sought, fragments, path, None)? else {
-                return Ok(false);
-            };
-            let placed = place_new(&mut SystemFolder::new(rt), file, path).map_err(|error| device(
-                alloc, path, error,
-            ))?;
-            if placed == Placed::IsThere {
-                let error = io::Error::from(ErrorKind::AlreadyExists);
-                return Err(device(alloc, path, error));
-            }
+            write_whole(rt, files, sought, fragments, path, None)
         }
-        Err(error) => return Err(device(alloc, path, error)),
+        Err(error) => Err(device(alloc, path, error)),
     }
-    sync_folder(rt, folder_of(path)).map_err(|error| device(alloc, path, error))?;
-    Ok(true)
+}
+
+/// Writes the file to a new one, which gets the path once all of it is on the disk, if the fragments give it, and says whether they do.
+fn write_whole(
+    rt: &HostRuntime,
+    files: &mut SystemFolder<'_>,
+    sought: &Sought<'_, '_>,
+    fragments: &Fragments,
+    path: &str,
+    there: Option<&Metadata>,
+) -> Result<bool, FileFault>
+    requires { vec_len fragments.now.opened ≡ 16 }
+    ensures whenever { PutsFile path.now sought.now.described.digest (⟦<SystemFolder<'static> as Folder>⟧.calls files.old)
+        (⟦<SystemFolder<'static> as Folder>⟧.calls files.new) }
+    ensures done { IfOk result (λ is. is ≡ true → is_temporary path.now ≡ false → HasFile path.now sought.now.described.digest
+        (⟦<SystemFolder<'static> as Folder>⟧.calls files.new)) }
+{
+    let Some(file) = write_new(rt, files, sought, fragments, path, there)? else {
+        return Ok(false);
+    };
+    match put(files, file, path, there.is_some()) {
+        Ok(()) => Ok(true),
+        Err(error) => Err(device(rt.alloc(), path, error)),
+    }
+}
+
+/// Gives a new file a path, in place of what is there if that is asked for and else only if nothing is, and writes the name to the disk.
+fn put<F: Folder>(
+    files: &mut F,
+    file: NewFile<F::New>,
+    path: &str,
+    replaces: bool,
+) -> io::Result<()>
+    ensures whenever { PutsOne path.now (content_of file) (F.calls files.old) (F.calls files.new) }
+    ensures alone { replaces ≡ false → GivesOne path.now (content_of file) (F.calls files.old) (F.calls files.new) }
+    ensures done { OnOk result (is_temporary path.now ≡ false
+        → IsSomeAnd (content_of file) (λ bytes. IsOnDisk path.now bytes (F.calls files.new))) }
+{
+    place_file(files, file, path, replaces)?;
+    files.sync_folder(folder_of(path))
+}
+
+/// Gives a new file a path, in place of what is there if that is asked for and else only if nothing is.
+fn place_file<F: Folder>(
+    files: &mut F,
+    file: NewFile<F::New>,
+    path: &str,
+    replaces: bool,
+) -> io::Result<()>
+    ensures whenever { PutsOne path.now (content_of file) (F.calls files.old) (F.calls files.new) }
+    ensures alone { replaces ≡ false → GivesOne path.now (content_of file) (F.calls files.old) (F.calls files.new) }
+    ensures given { OnOk result (is_temporary path.now ≡ false
+        → IsSomeAnd (content_of file) (λ bytes. HasWhole path.now bytes (F.calls files.new))) }
+{
+    if replaces {
+        return place_again(files, file, path);
+    }
+    match place_new(files, file, path)? {
+        Placed::Placed => Ok(()),
+        Placed::IsThere => Err(io::Error::from(ErrorKind::AlreadyExists)),
+    }
 }
 
 /// Writes the file to what is at a path and is no regular file, if the fragments give it, which is known before its first byte is written.
@@ -121,28 +180,35 @@ fn refuse_in_store(rt: &HostRuntime, sought: &Sought<'_, '_>, path: &str) -> Res
 /// have it, or, where that isn't the file that is described, as some do that have it.
 fn write_new(
     rt: &HostRuntime,
+    files: &mut SystemFolder<'_>,
     sought: &Sought<'_, '_>,
     fragments: &Fragments,
     path: &str,
     there: Option<&Metadata>,
 ) -> Result<Option<NewFile>, FileFault>
     requires { vec_len fragments.now.opened ≡ 16 }
+    ensures whenever { KeepsEach (⟦<SystemFolder<'static> as Folder>⟧.calls files.old)
+        (⟦<SystemFolder<'static> as Folder>⟧.calls files.new) }
+    ensures file { IfOk result (λ made. IfSome made (λ file. HasDigest sought.now.described.digest (content_of file))) }
 {
-    if let Written::Right(file) = write_from(rt, sought, fragments, fragments.set, path, there)? {
-        return Ok(Some(file));
+    let all = fragments.set;
+    match write_from(rt, files, sought, fragments, all, path, there)? {
+        Attempt::Right(file) => return Ok(Some(file)),
+        Attempt::Wrong(fault) => drop(fault),
     }
     let Some(set) = some_that_fit(rt, sought, fragments)? else {
         return Ok(None);
     };
-    match write_from(rt, sought, fragments, set, path, there)? {
-        Written::Right(file) => Ok(Some(file)),
-        Written::Wrong(fault) => Err(fault),
+    match write_from(rt, files, sought, fragments, set, path, there)? {
+        Attempt::Right(file) => Ok(Some(file)),
+        Attempt::Wrong(fault) => Err(fault),
     }
 }
 
-/// A file that is the one that is described, under a temporary name; or why what was written isn't, which then is removed.
+/// What became of a file that was written from some fragments: it is the one that is described and has a temporary name, or it isn't, and
+/// is removed.
 #[derive(Drop)]
-enum Written {
+enum Attempt {
     Right(NewFile),
     Wrong(FileFault),
 }
@@ -150,42 +216,78 @@ enum Written {
 /// Writes the file as these fragments have it.
 fn write_from(
     rt: &HostRuntime,
+    files: &mut SystemFolder<'_>,
     sought: &Sought<'_, '_>,
     fragments: &Fragments,
     set: PlaceSet,
     path: &str,
     there: Option<&Metadata>,
-) -> Result<Written, FileFault>
+) -> Result<Attempt, FileFault>
     requires { vec_len fragments.now.opened ≡ 16 }
+    ensures whenever { KeepsEach (⟦<SystemFolder<'static> as Folder>⟧.calls files.old)
+        (⟦<SystemFolder<'static> as Folder>⟧.calls files.new) }
+    ensures file { IfOk result (IsRight sought.now.described.digest) }
 {
     let alloc = rt.alloc();
-    let file = new_beside(rt, path, there).map_err(|error| device(alloc, path, error))?;
+    let file = match new_beside(rt, files, path, there) {
+        Ok(file) => file,
+        Err(error) => return Err(device(alloc, path, error)),
+    };
+    match filled(rt, sought, fragments, set, file, path, there) {
+        (file, Ok(None)) => Ok(Attempt::Right(file)),
+        (file, Ok(Some(fault))) => Ok(Attempt::Wrong(removed(alloc, files, file, path, fault))),
+        (file, Err(fault)) => Err(removed(alloc, files, file, path, fault)),
+    }
+}
+
+/// Writes the file as these fragments have it to an empty one, which gets the owner and the rights of what it replaces. Says why what was
+/// written isn't the file that is described, if it isn't.
+fn filled(
+    rt: &HostRuntime,
+    sought: &Sought<'_, '_>,
+    fragments: &Fragments,
+    set: PlaceSet,
+    file: NewFile,
+    path: &str,
+    there: Option<&Metadata>,
+) -> (NewFile, Result<Option<FileFault>, FileFault>)
+    requires sixteen { vec_len fragments.now.opened ≡ 16 }
+    requires empty { content_of file ≡ Some [] }
+    ensures { IfOk result.1 (λ fault. fault ≡ None → HasDigest sought.now.described.digest (content_of result.0)) }
+{
+    let alloc = rt.alloc();
     let mut counted = Counted {
-        file: DigestedFile::new(file),
+        file: Digested::new(file),
         rt,
         progress: sought.file.progress,
     };
     let survivors = survivors_of(sought, fragments, set);
     let file_bytes = sought.described.length as usize;
     let done = read_file(alloc, &survivors, file_bytes, &mut counted);
-    let (file, digest) = counted.file.finish();
-    let is_described = digest == sought.described.digest;
-    match ended(alloc, sought, path, done, is_described) {
-        Ok(None) => match taken_after(&file, there) {
-            Ok(()) => Ok(Written::Right(file)),
-            Err(error) => Err(removed(rt, file, path, device(alloc, path, error))),
-        },
-        Ok(Some(fault)) => Ok(Written::Wrong(removed(rt, file, path, fault))),
-        Err(fault) => Err(removed(rt, file, path, fault)),
+    let (file, is_described) = counted.file.finish(&sought.described.digest);
+    let done = ended(alloc, sought, path, done, is_described);
+    if let Ok(None) = done {
+        if let Err(error) = taken_after(&file, there) {
+            return (file, Err(device(alloc, path, error)));
+        }
     }
+    (file, done)
 }
 
 /// A new file beside a path.
-fn new_beside(rt: &HostRuntime, path: &str, there: Option<&Metadata>) -> io::Result<NewFile> {
+fn new_beside<F: Folder>(
+    rt: &HostRuntime,
+    files: &mut F,
+    path: &str,
+    there: Option<&Metadata>,
+) -> io::Result<NewFile<F::New>>
+    ensures whenever { KeepsEach (F.calls files.old) (F.calls files.new) }
+    ensures empty { IfOk result (λ new. content_of new ≡ Some []) }
+{
     let folder = folder_of(path);
     match there {
-        Some(_) => NewFile::create_private(rt, rt.alloc(), folder),
-        None => NewFile::create_as_user(rt, rt.alloc(), folder),
+        Some(_) => create_private(rt, files, folder),
+        None => create_new(rt, files, folder),
     }
 }
 
@@ -196,7 +298,9 @@ fn ended(
     path: &str,
     done: Result<(), MendFault>,
     is_described: bool,
-) -> Result<Option<FileFault>, FileFault> {
+) -> Result<Option<FileFault>, FileFault>
+    ensures { IfOk result (λ fault. fault ≡ None → is_described ≡ true) }
+{
     match done {
         Ok(()) if is_described => Ok(None),
         Ok(()) | Err(MendFault::Several { .. }) => Ok(Some(changed_meanwhile(alloc, sought))),
@@ -207,10 +311,21 @@ fn ended(
 }
 
 /// Removes a file that isn't the one that is described, and gives why; or why it can't be removed.
-fn removed(rt: &HostRuntime, file: NewFile, path: &str, fault: FileFault) -> FileFault {
-    match file.discard(rt) {
+fn removed<F: Folder>(
+    alloc: Global,
+    files: &mut F,
+    file: NewFile<F::New>,
+    path: &str,
+    fault: FileFault,
+) -> FileFault
+    ensures { KeepsEach (F.calls files.old) (F.calls files.new) }
+{
+    match discard_new(files, file) {
         Ok(()) => fault,
-        Err(error) => device(rt.alloc(), path, error),
+        Err(error) => {
+            drop(fault);
+            device(alloc, path, error)
+        }
     }
 }
 

@@ -5,7 +5,7 @@ ghost use Rattle.store_repair.specs.Files.{fragment_length};
 use lrc_code::{Place, PlaceSet};
 use std::io::{self, ErrorKind};
 use store_faults::{FileFault, words_of};
-use store_files::{DigestAlone, Sought};
+use store_files::{Digested, Sought, Unkept};
 use store_folder::{FileFragment, SystemOpen, open_fragment, path_in, refuse_linked_folders};
 use store_progress::Counted;
 use store_repair::{MendFault, Survivors, fragment_length, read_file};
@@ -95,15 +95,15 @@ pub(crate) fn gives_file(
 ) -> Result<bool, FileFault>
     requires { vec_len fragments.now.opened ≡ 16 }
 {
-    let mut digest = Counted {
-        file: DigestAlone::new(),
+    let mut counted = Counted {
+        file: Digested::new(Unkept::new()),
         rt,
         progress: sought.file.progress,
     };
     let survivors = survivors_of(sought, fragments, set);
     let file_bytes = sought.described.length as usize;
-    match read_file(rt.alloc(), &survivors, file_bytes, &mut digest) {
-        Ok(()) => Ok(digest.file.finish() == sought.described.digest),
+    match read_file(rt.alloc(), &survivors, file_bytes, &mut counted) {
+        Ok(()) => Ok(counted.file.finish(&sought.described.digest).1),
         Err(MendFault::OutOfMemory) => Err(FileFault::OutOfMemory),
         Err(_) => Ok(false),
     }

@@ -1,14 +1,15 @@
 //! A file that is written as it is read: to standard output, or to what is open.
-ghost use Rattle.std.specs.Prelude.{◌≡◌, None, vec_len};
+ghost use Rattle.std.specs.Prelude.{◌≡◌, [], OnOk, Some, vec_len};
+ghost use Rattle.store_files.specs.Digests.{HasDigest};
 
 use crate::reading::fragments::{Fragments, survivors_of};
+use folders::Written;
 use lrc_code::PlaceSet;
-use sha2::{Digest as _, Sha256};
 use std::alloc::Global;
 use std::fs::File;
 use std::io::{self, BufWriter, Printer, Write};
 use store_faults::{FileFault, device};
-use store_files::Sought;
+use store_files::{Digested, Sought};
 use store_progress::{Counted, allow_output};
 use store_repair::{MendFault, NewFragment, read_file};
 
@@ -19,22 +20,23 @@ enum Sink<'a> {
     Opened(BufWriter<File>),
 }
 
-/// What is written to, and the digest of what was written.
+/// What is written to, and, for contracts, the bytes that it was given.
 #[derive(Drop)]
 struct Output<'a> {
     sink: Sink<'a>,
-    digest: Sha256,
+    written: Written,
 }
 
 impl NewFragment for Output<'_> {
-    ghost shown = { λ _. None };
+    ghost shown = { λ output. output.written.bytes };
 
     fn append(&mut self, bytes: &[u8]) -> io::Result<()> {
-        self.digest.update(bytes);
-        match &mut self.sink {
+        let answer = match &mut self.sink {
             Sink::Standard(writer) => writer.write_all(bytes),
             Sink::Opened(writer) => writer.write_all(bytes),
-        }
+        };
+        self.written = Written::with(&self.written, bytes, answer.is_ok());
+        answer
     }
 }
 
@@ -81,21 +83,44 @@ fn write_to(
 ) -> Result<(), FileFault>
     requires { vec_len fragments.now.opened ≡ 16 }
 {
-    let alloc = rt.alloc();
-    let file = Output {
+    let output = Output {
         sink,
-        digest: Sha256::new(),
+        written: Written::new(),
     };
+    let (output, done) = give(rt, sought, fragments, set, output, name);
+    match flushed(output.sink) {
+        Ok(()) => done,
+        Err(error) => Err(device(rt.alloc(), name, error)),
+    }
+}
+
+/// Gives the file to an output, which was given nothing yet. After Ok all that it was given has the file's digest; it hasn't if a fragment
+/// has changed since the fragments were found to give the file.
+fn give<'o>(
+    rt: &HostRuntime,
+    sought: &Sought<'_, '_>,
+    fragments: &Fragments,
+    set: PlaceSet,
+    output: Output<'o>,
+    name: &str,
+) -> (Output<'o>, Result<(), FileFault>)
+    requires sixteen { vec_len fragments.now.opened ≡ 16 }
+    requires empty { output.written.bytes ≡ Some [] }
+    ensures { OnOk result.1 (HasDigest sought.now.described.digest result.0.written.bytes) }
+{
     let mut counted = Counted {
-        file,
+        file: Digested::new(output),
         rt,
         progress: sought.file.progress,
     };
     let survivors = survivors_of(sought, fragments, set);
     let file_bytes = sought.described.length as usize;
-    match read_file(alloc, &survivors, file_bytes, &mut counted) {
-        Ok(()) => ended(alloc, sought, counted.file, name),
-        Err(fault) => Err(unread(alloc, sought, name, fault)),
+    let done = read_file(rt.alloc(), &survivors, file_bytes, &mut counted);
+    let (output, is_file) = counted.file.finish(&sought.described.digest);
+    match done {
+        Ok(()) if is_file => (output, Ok(())),
+        Ok(()) => (output, Err(changed_meanwhile(rt.alloc(), sought))),
+        Err(fault) => (output, Err(unread(rt.alloc(), sought, name, fault))),
     }
 }
 
@@ -106,22 +131,6 @@ fn unread(alloc: Global, sought: &Sought<'_, '_>, name: &str, fault: MendFault) 
         MendFault::Unread { error, .. } => device(alloc, sought.file.name, error),
         _ => FileFault::OutOfMemory,
     }
-}
-
-/// Ends the output, which is the file that is described unless a fragment has changed since it was tested.
-fn ended(
-    alloc: Global,
-    sought: &Sought<'_, '_>,
-    output: Output<'_>,
-    name: &str,
-) -> Result<(), FileFault> {
-    let Output { sink, digest } = output;
-    flushed(sink).map_err(|error| device(alloc, name, error))?;
-    let written = digest.finalize();
-    if written != sought.described.digest {
-        return Err(changed_meanwhile(alloc, sought));
-    }
-    Ok(())
 }
 
 /// Writes what is still kept.

@@ -2,6 +2,7 @@ use Rattle.std.proofs.Common.{◌≡◌, ◌∙◌, ap, ℕ, List, ◌∷◌, tr
 use Rattle.folders.specs.Calls.{rename}
 use Rattle.folders.proofs.ExchangeRuns.{ends_unwritten, ends_unkept, ends_unnamed, ends_renamed}
 use Rattle.folders.proofs.Exchanges.{not_on, ends_given}
+use Rattle.folders.proofs.Others.{leaves_asked, leaves_named, leaves_renamed, leaves_synced}
 use Rattle.folders.proofs.exchanging.exchange.Goals as goal
 
 pub returns-in_err-whole-clause-whenever : goal.returns-in_err-whole-clause-whenever
@@ -62,3 +63,24 @@ returns-clause-given g c = λ done.
     ∷ g.F.Folder.calls c.sync_folder.new.self) c.in_ok-whole.ensures.number
     ∙ ap (λ (from : List ℕ). (rename (g.F.New.NewFile.number c.args.file) from c.args.path.now, true)
     ∷ g.F.Folder.calls c.sync_folder.new.self) c.in_ok-whole.ensures.path)
+
+pub returns-in_err-whole-clause-others : goal.returns-in_err-whole-clause-others
+returns-in_err-whole-clause-others g c = leaves_synced _ _ _ _ _ _ false _ c.in_err-whole.ensures.err
+
+pub returns-in_err-keep_at-clause-others : goal.returns-in_err-keep_at-clause-others
+returns-in_err-keep_at-clause-others g c = leaves_asked _ _ _ _ _ _ _ _ c.in_ok-whole.ensures.ok c.in_err-keep_at.ensures.asked
+
+pub returns-then-not-branch-clause-others : goal.returns-then-not-branch-clause-others
+returns-then-not-branch-clause-others g c = leaves_asked _ _ _ _ _ _ _ _ c.in_ok-whole.ensures.ok c.in_ok-keep_at.ensures.asked
+
+pub returns-in_err-sync_folder-clause-others : goal.returns-in_err-sync_folder-clause-others
+returns-in_err-sync_folder-clause-others g c = leaves_named _ _ _ _ _ _ _ false _ _ _ c.in_ok-whole.ensures.ok
+    c.in_ok-keep_at.ensures.asked c.in_err-sync_folder.ensures.err
+
+pub returns-in_err-rename-clause-others : goal.returns-in_err-rename-clause-others
+returns-in_err-rename-clause-others g c = leaves_renamed _ _ _ _ _ _ _ _ _ false _ _ _ _ c.in_ok-whole.ensures.ok
+    c.in_ok-keep_at.ensures.asked c.in_ok-sync_folder.ensures.ok c.in_ok-whole.ensures.path c.in_err-rename.ensures.err
+
+pub returns-clause-others : goal.returns-clause-others
+returns-clause-others g c = leaves_renamed _ _ _ _ _ _ _ _ _ true _ _ _ _ c.in_ok-whole.ensures.ok c.in_ok-keep_at.ensures.asked
+    c.in_ok-sync_folder.ensures.ok c.in_ok-whole.ensures.path c.in_ok-rename.ensures.ok

@@ -11,7 +11,7 @@ use Rattle.store_repair.specs.Kept.{given_by}
 use Rattle.store_repair.specs.Opened.{IsPutOf}
 use Rattle.store_repair.specs.Repaired.{MayReplace, is_silent, replaces}
 use Rattle.store_repair.proofs.GivenLemmas.{AreGivenFrom, among_quiet, given_next, given_none}
-use Rattle.store_repair.proofs.KeptLemmas.{all_more, all_over, given_here}
+use Rattle.store_repair.proofs.KeptLemmas.{all_beside, all_more, all_over, beside_either, given_here}
 use Rattle.store_repair.proofs.PutLemmas.{IsSaid, asked, beside_at, beside_trans, replaces_at, replaces_trans, said_left, said_more}
 use Rattle.store_repair.proofs.RepairLemmas.{far_before, far_more, off_too, popped_before, popped_last, put_before, put_more}
 use Rattle.store_repair.proofs.RepairLemmas.{untouched_trans, untouched_weaker}
@@ -347,6 +347,11 @@ files-preserved-in-Continue-branch-2 g c =
     let later = named c.put_one.new.findings.items in
     let far = λ (i : ℕ) (d : Place) (lt : i < length c.files.put.items) (k : ℕ) (d2 : Place) (small : k < n + 1).
     c.files.invariant.far i d lt k d2 (omega (arith, small, more)) in
+    let some = (c.files.invariant.changed c.args.store.now (g.S.Store.changed_same s c.args.store.now)).some in
+    let beside = beside_either s p ((r && checked) ≡ false) (g.S.Store.apart c.args.store.now) (g.S.Store.got_name c.files.store)
+    (g.S.Store.got_name c.put_one.new.store) (λ off. c.put_one.ensures.others (off_too way (r && checked) on off))
+    (λ apart. c.put_one.ensures.beside
+    (g.met.S.Store.changed_apart s some.given c.args.store.now c.files.store some.changes apart)) in
     record {
       untouched = untouched_trans (r && checked) s old now next c.files.invariant.untouched
           (untouched_weaker way (r && checked) s now next on c.put_one.ensures.untouched);
@@ -368,13 +373,12 @@ files-preserved-in-Continue-branch-2 g c =
       places = refl;
       few = omega (arith, more, few);
       same = popped_before c.files.left.items c.pop.new.self.items made file n c.in-Some.ensures.items long same;
-      done = λ off. subst (All (λ q. g.S.Store.got_name c.put_one.new.store s q (given_by shown places made q)))
+      done = λ so. subst (All (λ q. g.S.Store.got_name c.put_one.new.store s q (given_by shown places made q)))
           (sym c.in_ok-push.ensures.items)
-          (all_more s (given_by shown places made) c.files.put.items (g.S.Store.got_name c.files.store)
-          (g.S.Store.got_name c.put_one.new.store) (c.put_one.ensures.others (off_too way (r && checked) on off))
-          (c.files.invariant.done off) p (shown file)
+          (all_more s (given_by shown places made) places n p c.files.put.items (g.S.Store.got_name c.files.store)
+          (g.S.Store.got_name c.put_one.new.store) here far (beside so) (c.files.invariant.done so) (shown file)
           (given_here shown places made n p file c.requires.apart even less here last)
-          (c.in_ok-put_one.ensures.named (off_too way (r && checked) on off) c.if-branch.true));
+          (c.in_ok-put_one.ensures.named c.if-branch.true));
       put = subst (All (IsPutOf shown places made s next)) (sym c.in_ok-push.ensures.items)
           (put_more shown places made s now next n p file c.files.put.items c.requires.apart even less here last
           c.put_one.ensures.elsewhere c.files.invariant.put far (c.in_ok-put_one.ensures.put c.if-branch.true));
@@ -421,6 +425,11 @@ files-preserved g c =
     let later = named c.put_one.new.findings.items in
     let far = λ (i : ℕ) (d : Place) (lt : i < length c.files.put.items) (k : ℕ) (d2 : Place) (small : k < n + 1).
     c.files.invariant.far i d lt k d2 (omega (arith, small, more)) in
+    let some = (c.files.invariant.changed c.args.store.now (g.S.Store.changed_same s c.args.store.now)).some in
+    let beside = beside_either s p ((r && checked) ≡ false) (g.S.Store.apart c.args.store.now) (g.S.Store.got_name c.files.store)
+    (g.S.Store.got_name c.put_one.new.store) (λ off. c.put_one.ensures.others (off_too way (r && checked) on off))
+    (λ apart. c.put_one.ensures.beside
+    (g.met.S.Store.changed_apart s some.given c.args.store.now c.files.store some.changes apart)) in
     record {
       untouched = untouched_trans (r && checked) s old now next c.files.invariant.untouched
           (untouched_weaker way (r && checked) s now next on c.put_one.ensures.untouched);
@@ -442,9 +451,8 @@ files-preserved g c =
       places = refl;
       few = omega (arith, more, few);
       same = popped_before c.files.left.items c.pop.new.self.items made file n c.in-Some.ensures.items long same;
-      done = λ off. all_over s (given_by shown places made) c.files.put.items (g.S.Store.got_name c.files.store)
-          (g.S.Store.got_name c.put_one.new.store) (c.put_one.ensures.others (off_too way (r && checked) on off))
-          (c.files.invariant.done off);
+      done = λ so. all_beside s (given_by shown places made) places n p c.files.put.items (g.S.Store.got_name c.files.store)
+          (g.S.Store.got_name c.put_one.new.store) here far (beside so) (c.files.invariant.done so);
       put = put_before shown places made s now next n p file c.files.put.items c.requires.apart even less here last
           c.put_one.ensures.elsewhere c.files.invariant.put far;
       far = far_before shown places made s now next n p file c.files.put.items c.requires.apart even less here last
@@ -465,11 +473,11 @@ returns-clause-all g c = λ k d lt.
     (c.files.invariant.all k d (let none = c.in_default.ensures.cases in omega (arith, none)) lt)
 
 pub returns-clause-done : goal.returns-clause-done
-returns-clause-done g c = λ off settled.
+returns-clause-done g c = λ so settled.
     all_over c.args.stripe.now.name.now
     (given_by g.S.New.NewFragment.shown c.args.made.places.items c.args.made.files.items) c.files.put.items
     (g.S.Store.got_name c.files.store) (g.S.Store.settled c.settle.new.store) (c.in_ok-settle.ensures.done settled)
-    (c.files.invariant.done off)
+    (c.files.invariant.done so)
 
 pub returns-in_err-settle-clause-changed : goal.returns-in_err-settle-clause-changed
 returns-in_err-settle-clause-changed g c = λ from before. among_quiet g.S.Store.kept g.S.Store.changed g.S.Store.kept_same

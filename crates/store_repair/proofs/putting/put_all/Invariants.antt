@@ -1,4 +1,4 @@
-use Rattle.std.specs.Prelude.{◌&&◌}
+use Rattle.std.specs.Prelude.{◌&&◌, ◌⊎◌}
 use Rattle.std.proofs.Common.{◌≡◌, ◌<◌, ◌≤◌, ℕ, All, false, get_or, length, vec_len}
 use Rattle.lrc_code.specs.declared.places.Place.{Place}
 use Rattle.lrc_code.specs.Places.{same_place}
@@ -34,7 +34,7 @@ invariant-files g l =
       places : l.places.items ≡ l.fn.made.places.items;
       few : vec_len l.left ≤ length made;
       same : (k : ℕ) (e : _) → k < vec_len l.left → get_or l.left.items k e ≡ get_or made k e;
-      done : (l.fn.repair.replace_damaged && l.fn.known.is_checked) ≡ false
+      done : ((l.fn.repair.replace_damaged && l.fn.known.is_checked) ≡ false) ⊎ g.S.Store.apart l.fn.store
           → All (λ p. g.S.Store.got_name l.store l.fn.stripe.name.now p
           (given_by g.S.New.NewFragment.shown l.fn.made.places.items made p)) l.put.items;
       put : All (IsPutOf g.S.New.NewFragment.shown l.places.items made l.fn.stripe.name.now (files l.store)) l.put.items;

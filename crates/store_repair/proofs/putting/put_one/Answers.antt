@@ -4,8 +4,12 @@ use Rattle.store_repair.proofs.KeptLemmas.{if_placed}
 use Rattle.store_repair.proofs.putting.put_one.Goals as goal
 
 pub returns-in-Place-clause-named : goal.returns-in-Place-clause-named
-returns-in-Place-clause-named g c = λ off. IfOk-weaker c.note_placed.result _ _
+returns-in-Place-clause-named g c = IfOk-weaker c.note_placed.result _ _
     (λ b of on. if_placed c.place-outcome.result _ c.place-outcome.ensures.named (of on)) c.note_placed.ensures.placed
+
+pub returns-in-Replace-clause-named : goal.returns-in-Replace-clause-named
+returns-in-Replace-clause-named g c = IfOk-weaker c.note_placed-in-Replace.result _ _
+    (λ b of on. if_placed c.replace-outcome.result _ c.replace-outcome.ensures.named (of on)) c.note_placed-in-Replace.ensures.placed
 
 pub returns-in-Place-clause-changed : goal.returns-in-Place-clause-changed
 returns-in-Place-clause-changed g c = λ given from fresh before. placed_more g.S.Store.kept g.S.Store.changed g.S.Store.kept_same

@@ -10,7 +10,7 @@ use Rattle.store_repair.specs.Opened.{AreMade}
 use Rattle.stores.specs.Store.{AreUntouched}
 use Rattle.store_repair.specs.Kept.{given_by}
 use Rattle.store_repair.proofs.GivenLemmas.{given_none_mended, given_some_mended}
-use Rattle.store_repair.proofs.KeptLemmas.{are_fit, none_done, none_given, off_with, some_done, some_given}
+use Rattle.store_repair.proofs.KeptLemmas.{are_fit, either_after, none_done, none_given, off_with, some_done, some_given}
 use Rattle.store_repair.proofs.RepairLemmas.{are_rebuilt, untouched_if, untouched_unless}
 use Rattle.store_repair.proofs.ShownLemmas.{none_shown, shown_later}
 use Rattle.store_repair.proofs.repairing.repair_stripe.Goals as goal
@@ -202,18 +202,18 @@ returns-then-has_changed-clause-whole g c = λ reads mended. absurd (none_mended
     (subst (λ fs. fs ≢ []) c.as_slice.ensures.value (c.has_changed.ensures c.if-has_changed.true)))) mended)
 
 pub returns-in_default-clause-done : goal.returns-in_default-clause-done
-returns-in_default-clause-done g c = λ off settled. none_done g.S.Store.settled _ _ _ _ c.of.result.rebuilt.items c.of.ensures.rebuilt
+returns-in_default-clause-done g c = λ so settled. none_done g.S.Store.settled _ _ _ _ c.of.result.rebuilt.items c.of.ensures.rebuilt
 
 pub returns-in_default-made-clause-done : goal.returns-in_default-made-clause-done
-returns-in_default-made-clause-done g c = λ off settled. none_done g.S.Store.settled _ _ _ _
+returns-in_default-made-clause-done g c = λ so settled. none_done g.S.Store.settled _ _ _ _
     c.of-in_default-made.result.rebuilt.items c.of-in_default-made.ensures.rebuilt
 
 pub returns-then-has_changed-clause-done : goal.returns-then-has_changed-clause-done
-returns-then-has_changed-clause-done g c = λ off settled. none_done g.S.Store.settled _ _ _ _
+returns-then-has_changed-clause-done g c = λ so settled. none_done g.S.Store.settled _ _ _ _
     c.of-then-has_changed.result.rebuilt.items c.of-then-has_changed.ensures.rebuilt
 
 pub returns-clause-done : goal.returns-clause-done
-returns-clause-done g c = λ off settled.
+returns-clause-done g c = λ so settled.
     let made = c.in-Some-made.made in
     let code = c.args.repair.now.code in
     let stripe = c.args.stripe.now.name.now in
@@ -223,7 +223,8 @@ returns-clause-done g c = λ off settled.
     made.files.items c.in_ok-rebuilt.rebuilt.items
     (subst (λ o. IfSome o (λ m. AreMade shown code (is_in m.set) c.in-Some.length stripe old m.places.items m.files.items))
     c.in-Some-made.is c.in_ok-made.ensures.made)
-    (c.in_ok-rebuilt.ensures.done (off_with c.args.repair.now.replace_damaged made.is_checked off)
+    (c.in_ok-rebuilt.ensures.done (either_after g.S.Store.kept g.S.Store.kept_same g.S.Store.apart g.met.S.Store.kept_apart
+    c.args.repair.now.replace_damaged made.is_checked stripe c.args.store.now c.make_lost.new.store c.make_lost.ensures.kept so)
     (settled_later _ c.make_lost.new.findings.items c.put_all.new.later.items c.in_ok-append.ensures.items settled))
 
 pub returns-in_default-clause-shown : goal.returns-in_default-clause-shown

@@ -13,10 +13,5 @@ pub returns-in_ok-is_there_already-in-Ok-Some-clause-whenever :
     goal.returns-in_ok-is_there_already-in-Ok-Some-clause-whenever
 returns-in_ok-is_there_already-in-Ok-Some-clause-whenever g c = each_quiet _ _ _ _ _ c.discard_all.ensures
 
-pub returns-in_err-discard_all-in-Err-clause-whenever :
-    goal.returns-in_err-discard_all-in-Err-clause-whenever
-returns-in_err-discard_all-in-Err-clause-whenever g c = each_quiet _ _ _ _ _ c.discard_all-in-Err.ensures
-
-pub returns-in_ok-discard_all-in-Err-clause-whenever :
-    goal.returns-in_ok-discard_all-in-Err-clause-whenever
-returns-in_ok-discard_all-in-Err-clause-whenever g c = each_quiet _ _ _ _ _ c.discard_all-in-Err.ensures
+pub returns-in-Err-clause-whenever : goal.returns-in-Err-clause-whenever
+returns-in-Err-clause-whenever g c = each_quiet _ _ _ _ _ c.discard_all-in-Err.ensures

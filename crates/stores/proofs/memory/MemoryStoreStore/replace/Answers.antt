@@ -1,5 +1,6 @@
 use Rattle.stores.specs.Memory.{files_of}
-use Rattle.stores.proofs.MemoryLemmas.{exchanged_changed, exchanged_elsewhere, exchanged_placed, exchanged_untouched}
+use Rattle.stores.proofs.MemoryLemmas.{exchanged_beside, exchanged_changed, exchanged_elsewhere, exchanged_named, exchanged_placed}
+use Rattle.stores.proofs.MemoryLemmas.{exchanged_untouched}
 use Rattle.stores.proofs.memory.MemoryStoreStore.replace.Goals as goal
 
 pub returns-clause-untouched : goal.returns-clause-untouched
@@ -25,3 +26,13 @@ returns-clause-changed c = λ given from fresh before.
       are = more.are;
       changes = more.changes;
     }
+
+pub returns-clause-beside : goal.returns-clause-beside
+returns-clause-beside c =
+    exchanged_beside c.exchange_name.result c.args.stripe.now c.args.place _
+    (files_of c.args.self.now) (files_of c.exchange_name.new.self) c.exchange_name.ensures
+
+pub returns-clause-named : goal.returns-clause-named
+returns-clause-named c =
+    exchanged_named c.exchange_name.result c.args.stripe.now c.args.place _
+    (files_of c.args.self.now) (files_of c.exchange_name.new.self) c.exchange_name.ensures

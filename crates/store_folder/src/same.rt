@@ -1,0 +1,37 @@
+//! Files that have their names already.
+use crate::digesting::digest_of;
+use crate::folder_store::FolderStore;
+use crate::links::Links;
+use crate::surviving::open_fragment_in;
+use folders::Folder;
+use std::io::{self, ErrorKind};
+
+impl<F: Folder> FolderStore<'_, F> {
+    /// Whether a file has its name, by what the system answered, or something that is there is the same: a run that was killed may have
+    /// given the name to a file with the same bytes.
+    pub(crate) fn has_name(
+        &self,
+        answer: io::Result<()>,
+        made_at: &str,
+        path: &str,
+    ) -> io::Result<bool> {
+        match answer {
+            Ok(()) => Ok(true),
+            Err(error) if error.kind() == ErrorKind::AlreadyExists => self.is_same(made_at, path),
+            Err(error) => Err(error),
+        }
+    }
+
+    /// Whether what is at a path is a regular file with the bytes of this one.
+    fn is_same(&self, made_at: &str, path: &str) -> io::Result<bool> {
+        let alloc = self.rt.alloc();
+        let length = self.files.status(made_at)?.length;
+        let links = Links::NotFollowed;
+        let made = open_fragment_in(&self.files, made_at, length, links)?;
+        let Ok(there) = open_fragment_in(&self.files, path, length, links) else {
+            return Ok(false);
+        };
+        let digest = digest_of(alloc, &made, length as usize)?;
+        Ok(digest_of(alloc, &there, length as usize)? == digest)
+    }
+}
