@@ -6,27 +6,38 @@ use std::alloc::{AllocError, Global};
 use store_arguments::ListOptions;
 use store_faults::{DEVICE, DONE, FileFault, device, say, write};
 use store_folder::Site;
-use store_opening::{OpenStore, open_store};
+use store_opening::{OpenStore, Opening, open_store};
 use store_reading::{CopyWork, DescribedStripe, tend_descriptions};
 use store_repair::{Stripe, fragment_length, lost_places};
 use store_reports::{FileState, ListedFile, Rows, file_line, files_listed};
 
 /// Says which files are in a store, and gives the exit status.
 pub fn list(rt: &HostRuntime, options: &ListOptions<'_>) -> Result<u8, FileFault> {
-    let alloc = rt.alloc();
     let opening = opening_of(&options.store);
     let store = open_store(rt, &opening)?;
-    let site = store.site_of(&opening);
     let form = if options.json { Rows::Json } else { Rows::Csv };
+    list_files(rt, &opening, &store, form)
+}
+
+/// Says which files are in an open store.
+fn list_files(
+    rt: &HostRuntime,
+    opening: &Opening<'_>,
+    store: &OpenStore,
+    form: Rows,
+) -> Result<u8, FileFault> {
+    let alloc = rt.alloc();
+    let site = store.site_of(opening);
     let stripes = store.stripes(rt)?;
     let mut broken = 0u64;
     for stripe in &stripes {
-        let file = file_of(rt, &store, &site, stripe)?;
+        let file = file_of(rt, store, &site, stripe)?;
         broken = broken.saturating_add(u64::from(file.state != FileState::Whole));
-        let line = file_line(alloc, &file, form);
-        write(rt, line).map_err(|error| device(alloc, "standard output", error))?;
+        if let Err(error) = write(rt, file_line(alloc, &file, form)) {
+            return Err(device(alloc, "standard output", error));
+        }
     }
-    say_alone(rt, &store, &opening, false);
+    say_alone(rt, store, opening, false);
     say(rt, files_listed(alloc, stripes.len() as u64, broken))?;
     Ok(if store.has_unlisted { DEVICE } else { DONE })
 }

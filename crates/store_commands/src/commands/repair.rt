@@ -31,29 +31,28 @@ pub fn repair<R: Threads + Sync>(
     refuse_outputs(system, &options.test)?;
     let opening = opening_of(options);
     let store = open_store(system, &opening)?;
-    match store.stripes(system) {
-        Ok(stripes) => repair_opened(rt, system, options, &opening, &store, stripes.as_slice()),
-        Err(AllocError) => Err(refused(system, &store, FileFault::OutOfMemory)),
-    }
+    repair_opened(rt, system, options, &opening, &store)
 }
 
-/// Repairs these stripes of an open store, and gives its locks back.
+/// Repairs the stripes of an open store, and gives its locks back.
 fn repair_opened<R: Threads + Sync>(
     rt: &R,
     system: &HostRuntime,
     options: &RepairOptions<'_>,
     opening: &Opening<'_>,
     store: &OpenStore,
-    stripes: &[Stripe<'_>],
 ) -> Result<u8, FileFault> {
-    let counters = match counters_for(system, options, opening, store, stripes) {
+    let Ok(stripes) = store.stripes(system) else {
+        return Err(refused(system, store, FileFault::OutOfMemory));
+    };
+    let counters = match counters_for(system, options, opening, store, stripes.as_slice()) {
         Ok(counters) => counters,
         Err(fault) => return Err(refused(system, store, fault)),
     };
     let opened = Opened {
-        store,
-        opening,
-        stripes,
+        store: &*store,
+        opening: &*opening,
+        stripes: stripes.as_slice(),
         counters: &counters,
     };
     let status = repair_all(rt, system, opened, options);

@@ -9,7 +9,7 @@ use std::thread::Threads;
 use store_arguments::{ScrubOptions, TestOptions};
 use store_faults::{FileFault, device, write};
 use store_folder::Site;
-use store_opening::open_store;
+use store_opening::{OpenStore, Opening, open_store};
 use store_reports::{Results, RowSource, finding_lines, scrubbed, status_of};
 
 /// Tests the stripes of a store, says what isn't as it should be, and gives the exit status.
@@ -22,23 +22,34 @@ pub fn scrub<R: Threads + Sync>(
     refuse_outputs(system, test)?;
     let opening = test_opening_of(&options.store, test);
     let store = open_store(system, &opening)?;
+    scrub_opened(rt, system, test, &opening, &store)
+}
+
+/// Tests the stripes of an open store, and writes the counters at its end.
+fn scrub_opened<R: Threads + Sync>(
+    rt: &R,
+    system: &HostRuntime,
+    test: &TestOptions<'_>,
+    opening: &Opening<'_>,
+    store: &OpenStore,
+) -> Result<u8, FileFault> {
     let stripes = store.stripes(system)?;
-    let task = scrub_task(&store, stripes.as_slice());
+    let task = scrub_task(store, stripes.as_slice());
     let counters = counters_of(system, task, test.quiet, test, opening.folder)?;
     let opened = Opened {
-        store: &store,
-        opening: &opening,
+        store: &*store,
+        opening: &*opening,
         stripes: stripes.as_slice(),
         counters: &counters,
     };
-    let ended = scrub_all(rt, system, opened, test);
-    counters.end(
-        system,
-        ended.map_err(|error| device(system.alloc(), opening.folder, error)),
-    )
+    let ended = match scrub_all(rt, system, opened, test) {
+        Ok(status) => Ok(status),
+        Err(error) => Err(device(system.alloc(), opening.folder, error)),
+    };
+    counters.end(system, ended)
 }
 
-/// Tests the stripes of an open store.
+/// Tests the stripes of an open store, as the options ask.
 fn scrub_all<R: Threads + Sync>(
     rt: &R,
     system: &HostRuntime,

@@ -74,18 +74,34 @@ impl<'a> CountersFile<'a> {
         };
         match self.write(rt, path, Some(status)) {
             Ok(()) => ended,
-            Err(error) if error.kind() == ErrorKind::OutOfMemory => Err(FileFault::OutOfMemory),
-            Err(error) => {
-                let why = words_of(rt.alloc(), &error)?;
-                say(
-                    rt,
-                    format!(in rt.alloc();
-                        "rebuild-store: {path}: the counters can't be written: {why}"
-                    ),
-                )?;
-                ended?;
-                Ok(DEVICE)
-            }
+            Err(error) => unwritten(ended, say_unwritten(rt, path, error)),
+        }
+    }
+}
+
+/// Says that counters can't be written.
+fn say_unwritten(rt: &HostRuntime, path: &str, error: io::Error) -> Result<(), FileFault> {
+    if error.kind() == ErrorKind::OutOfMemory {
+        return Err(FileFault::OutOfMemory);
+    }
+    let why = words_of(rt.alloc(), &error)?;
+    say(
+        rt,
+        format!(in rt.alloc(); "rebuild-store: {path}: the counters can't be written: {why}"),
+    )?;
+    Ok(())
+}
+
+/// How a command ended whose counters couldn't be written, which was said or couldn't be.
+fn unwritten(ended: Result<u8, FileFault>, said: Result<(), FileFault>) -> Result<u8, FileFault> {
+    match said {
+        Ok(()) => match ended {
+            Ok(_) => Ok(DEVICE),
+            Err(fault) => Err(fault),
+        },
+        Err(fault) => {
+            drop(ended);
+            Err(fault)
         }
     }
 }
