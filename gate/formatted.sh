@@ -6,8 +6,8 @@ copy=$(mktemp -d)
 trap 'rm -rf "$copy"' EXIT
 tools/copy-tree.sh "$copy"
 # The crates side by side, each in a process of its own.
-said=$(printf '%s\0' "$copy"/crates/*/ | xargs -0 -P "$(nproc)" -I CRATE sh -c \
-  'cd CRATE && rt fmt 2>&1 | sed -n "s|^rt: formatted |crates/$(basename CRATE)/|p"')
+said=$(printf '%s\0' "$copy"/crates/*/ | xargs -0 -P "$(nproc)" -n 1 sh -c \
+  'cd "$1" && rt fmt 2>&1 | sed -n "s|^rt: formatted |crates/$(basename "$1")/|p"' sh)
 if [ -n "$said" ]; then
   printf '%s\n' "$said" 'formatted: run rt fmt in these crates' >&2
   exit 1

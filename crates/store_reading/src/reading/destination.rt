@@ -35,8 +35,8 @@ pub fn passes_to(rt: &HostRuntime, path: &str) -> u64 {
 }
 
 /// Writes the file to a path, if the fragments give it, and says whether they do. It gets its name when all of it is on the disk, and takes
-/// the place of a regular file, with the owner and the rights of that one; a device, a FIFO or what a link leads to is written as it is.
-/// Whenever that ends, the path has what it had, or all of a file of the described digest, and no other path changes but temporary ones.
+/// the place of a regular file, with the owner and the rights of that one; a device, a FIFO or what a link leads to is written as it is,
+/// which no record of calls has, so that the clauses are those of `write_whole`.
 pub(crate) fn write_at(
     rt: &HostRuntime,
     files: &mut SystemFolder<'_>,
@@ -45,8 +45,6 @@ pub(crate) fn write_at(
     path: &str,
 ) -> Result<bool, FileFault>
     requires { vec_len fragments.now.opened ≡ 16 }
-    ensures { PutsFile path.now sought.now.described.digest (⟦<SystemFolder<'static> as Folder>⟧.calls files.old)
-        (⟦<SystemFolder<'static> as Folder>⟧.calls files.new) }
 {
     let alloc = rt.alloc();
     refuse_in_store(rt, sought, path)?;
@@ -70,6 +68,7 @@ pub(crate) fn write_at(
 }
 
 /// Writes the file to a new one, which gets the path once all of it is on the disk, if the fragments give it, and says whether they do.
+/// Whenever that ends, the path has what it had, or all of a file of the described digest, and no other path changes but temporary ones.
 fn write_whole(
     rt: &HostRuntime,
     files: &mut SystemFolder<'_>,
