@@ -1,9 +1,11 @@
 -- A file that is read, written to a path.
-use Rattle.std.specs.Prelude.{◌≡◌, ℕ, List, Option, Some, IsSomeAnd}
+use Rattle.std.specs.Prelude.{◌≡◌, ℕ, List, Option, Some}
 use Rattle.folders.specs.Calls.{Answered}
 use Rattle.folders.specs.Disk.{IsOnDisk}
+use Rattle.folders.specs.Kept.{Keeps}
 use Rattle.sha2.specs.Sha256.{sha256}
 use Rattle.store_files.specs.Digests.{HasDigest}
+use Rattle.store_folder.specs.Kept.{IsTemporary}
 use Rattle.store_folder.specs.Placed.{content_of}
 use Rattle.store_folder.specs.Written.{Puts}
 use Rattle.store_reading.specs.declared.reading.destination.Attempt.{Attempt}
@@ -16,6 +18,10 @@ IsFileAt to digest path content = (path ≡ to) × HasDigest digest content
 -- Whenever the calls ended, each path but temporary ones had what it had, or it is this one and has all of a file of this digest.
 abbrev pub PutsFile : List ℕ → List ℕ → List Answered → List Answered → Type 0
 PutsFile to digest old new = Puts (IsFileAt to digest) old new
+
+-- So it is, and if it has that, it had nothing.
+abbrev pub GivesFile : List ℕ → List ℕ → List Answered → List Answered → Type 0
+GivesFile to digest old new = Keeps IsTemporary (λ path bytes. IsFileAt to digest path (Some bytes)) old new
 
 -- a path has all of a file of a digest, and each crash leaves it there
 abbrev pub HasFile : List ℕ → List ℕ → List Answered → Type 0

@@ -6,7 +6,7 @@ ghost use Rattle.store_folder.specs.Placed.{content_of};
 ghost use Rattle.store_folder.specs.Temporary.{is_temporary};
 ghost use Rattle.store_folder.specs.Written.{PutsOne};
 ghost use Rattle.store_files.specs.Digests.{HasDigest};
-ghost use Rattle.store_reading.specs.Written.{HasFile, IsRight, PutsFile};
+ghost use Rattle.store_reading.specs.Written.{GivesFile, HasFile, IsRight, PutsFile};
 
 use crate::reading::choosing::{set_that_fits, some_that_fit};
 use crate::reading::fragments::{Fragments, survivors_of};
@@ -69,6 +69,7 @@ pub(crate) fn write_at(
 
 /// Writes the file to a new one, which gets the path once all of it is on the disk, if the fragments give it, and says whether they do.
 /// Whenever that ends, the path has what it had, or all of a file of the described digest, and no other path changes but temporary ones.
+/// Where nothing was at the path, nothing that has come meanwhile is replaced.
 fn write_whole(
     rt: &HostRuntime,
     files: &mut SystemFolder<'_>,
@@ -80,6 +81,8 @@ fn write_whole(
     requires { vec_len fragments.now.opened ≡ 16 }
     ensures whenever { PutsFile path.now sought.now.described.digest (⟦<SystemFolder<'static> as Folder>⟧.calls files.old)
         (⟦<SystemFolder<'static> as Folder>⟧.calls files.new) }
+    ensures alone { there.entry ≡ None → GivesFile path.now sought.now.described.digest
+        (⟦<SystemFolder<'static> as Folder>⟧.calls files.old) (⟦<SystemFolder<'static> as Folder>⟧.calls files.new) }
     ensures done { IfOk result (λ is. is ≡ true → is_temporary path.now ≡ false → HasFile path.now sought.now.described.digest
         (⟦<SystemFolder<'static> as Folder>⟧.calls files.new)) }
 {

@@ -1,4 +1,3 @@
-use Rattle.std.proofs.Common.{refl}
 use Rattle.store_reading.proofs.Written.{puts_new}
 use Rattle.store_reading.proofs.reading.destination.place_file.Goals as goal
 
