@@ -67,6 +67,26 @@ pub(crate) struct Worked {
     pub(crate) held: String,
 }
 
+impl Worked {
+    /// Nothing yet, with room for what is done with so many stripes.
+    fn with_capacity(alloc: Global, count: usize) -> Result<Worked, AllocError> {
+        Ok(Worked {
+            all: Vec::with_capacity(alloc, count)?,
+            held: String::new(alloc),
+        })
+    }
+
+    /// Adds what another thread has done.
+    fn add(&mut self, other: Worked) -> Result<(), AllocError> {
+        let Worked { all, held } = other;
+        self.held.push_str(held.as_str())?;
+        for done in all {
+            self.all.push(done)?;
+        }
+        Ok(())
+    }
+}
+
 impl Work {
     /// What is done with the copies of descriptions.
     fn with_copies(&self) -> CopyWork {
@@ -121,17 +141,21 @@ pub(crate) fn work_on<R: Threads + Sync>(
     let next = AtomicUsize::new(0);
     let worker = |_worker: usize| { take_stripes(system, stripes, work, order, &next) };
     let parts = thread::map_indices(rt, system.alloc(), workers, &worker)?;
-    let mut all = Vec::with_capacity(system.alloc(), order.len())?;
-    let mut held = String::new(system.alloc());
+    joined(system.alloc(), parts, order.len())
+}
+
+/// What the threads have done together with so many stripes, in the order of these.
+fn joined(
+    alloc: Global,
+    parts: Vec<Result<Worked, AllocError>>,
+    count: usize,
+) -> Result<Worked, AllocError> {
+    let mut worked = Worked::with_capacity(alloc, count)?;
     for part in parts {
-        let part = part?;
-        held.push_str(part.held.as_str())?;
-        for done in part.all {
-            all.push(done)?;
-        }
+        worked.add(part?)?;
     }
-    all.sort_by_key(|done| done.index)?;
-    Ok(Worked { all, held })
+    worked.all.sort_by_key(|done| done.index)?;
+    Ok(worked)
 }
 
 /// The indexes of the stripes in the order in which they are worked on: those of which fewest fragments are there first.

@@ -7,6 +7,7 @@
 #![tactic(auto)]
 
 mod commands;
+mod tally;
 
 pub use commands::encode::encode;
 pub use commands::read::read;

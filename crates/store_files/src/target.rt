@@ -1,5 +1,6 @@
 //! The store that files are encoded into.
-ghost use Rattle.std.specs.Prelude.{◌≡◌, ◌∷◌, ◌++◌, IfOk, string_bytes};
+ghost use Rattle.std.specs.Prelude.{◌≡◌, ◌∷◌, ◌++◌, IfOk, length, string_bytes, vec_len};
+ghost use Rattle.lrc_code.specs.Codes.{tables_of};
 
 use lrc_code::{Code, Place};
 use std::alloc::{AllocError, Global};
@@ -24,10 +25,13 @@ pub struct Target<'a> {
 
 impl Target<'_> {
     /// The names in the store of a stripe's fragments, in the order of the code's places.
-    pub fn names(&self, alloc: Global, stripe: &str) -> Result<Vec<String>, AllocError> {
-        let mut names = Vec::new(alloc);
-        for place in self.code.places() {
-            names.push(self.name_of(alloc, stripe, *place)?)?;
+    pub fn names(&self, alloc: Global, stripe: &str) -> Result<Vec<String>, AllocError>
+        ensures { IfOk result (λ names. vec_len names ≡ length (tables_of self.now.code).places) }
+    {
+        let places = self.code.places();
+        let mut names = Vec::with_capacity(alloc, places.len())?;
+        'names: while names.len() < places.len() {
+            names.push(self.name_of(alloc, stripe, places[names.len()])?)?;
         }
         Ok(names)
     }

@@ -11,7 +11,9 @@ use std::fs::{self, File, TryLockError};
 use std::io::{self, ErrorKind};
 use std::os::unix::fs::FileExt;
 use std::random::RandomSource;
-use store_names::{RANDOM_DIGITS, UNFINISHED, is_free, is_run, is_unfinished, last_of, path_in};
+use store_names::{
+    RANDOM_DIGITS, UNFINISHED, is_free, is_lock_text, is_unfinished, last_of, path_in,
+};
 
 /// No text that a run writes into the file of its lock is longer.
 pub const MOST_OF_LOCK: u64 = 200;
@@ -115,8 +117,10 @@ pub(crate) fn new_path(rt: &HostRuntime, folder: &str, tag: &str) -> io::Result<
 #[derive(Debug, Drop)]
 pub enum Leftover {
     Removed,
-    /// It is no regular file, or a run works on it, or it has the name of a lock and other bytes than a lock has, so it stays.
+    /// It is no regular file, or a run works on it, so it stays.
     Kept,
+    /// It has the name of a lock and other bytes than a lock has, so it stays.
+    NoLock,
     /// The system refused to open it, or to remove it.
     Refused(io::Error),
 }
@@ -136,7 +140,7 @@ pub fn remove_leftover(rt: &HostRuntime, path: &str, is_known_dead: bool) -> Lef
             }
             match is_of_run(&opened.file, path) {
                 Ok(true) => removed(fs::remove_file(rt, path)),
-                Ok(false) => Leftover::Kept,
+                Ok(false) => Leftover::NoLock,
                 Err(error) => Leftover::Refused(error),
             }
         }
@@ -153,25 +157,22 @@ fn is_empty(rt: &HostRuntime, path: &str) -> bool {
     fs::symlink_metadata(rt, path).is_ok_and(|there| there.is_file() && there.len() == 0)
 }
 
-/// Whether a file that is open for reading has what runs write under its name: the bytes of an unfinished file are any, and a lock has
-/// none, or a line that says a run. A fragment of other software that is named like a lock has others.
+/// Whether a file that is open for reading has what runs write under its name: the bytes of an unfinished file are any, and those of a lock
+/// are what `is_lock_text` says. A fragment of other software that is named like a lock has others.
 pub fn is_of_run(file: &File, path: &str) -> io::Result<bool> {
-    let length = file.metadata()?.len();
-    if length == 0 || is_unfinished(last_of(path)) {
+    if is_unfinished(last_of(path)) {
         return Ok(true);
     }
+    let length = file.metadata()?.len();
     if length > MOST_OF_LOCK {
         return Ok(false);
     }
     let mut room = [0; MOST_OF_LOCK as usize];
     let bytes = &mut room[..length as usize];
     file.read_exact_at(bytes, 0)?;
-    let Ok(text) = str::from_utf8(bytes) else {
-        return Ok(false);
-    };
-    match text.strip_suffix('\n') {
-        Some(run) => Ok(is_run(run)),
-        None => Ok(false),
+    match str::from_utf8(bytes) {
+        Ok(text) => Ok(is_lock_text(text)),
+        Err(_) => Ok(false),
     }
 }
 

@@ -6,6 +6,7 @@ pub mod Folders
 pub mod Free
 pub mod Keys
 pub mod Letters
+pub mod LockTexts
 pub mod Marks
 pub mod MountPoints
 pub mod Numbers

@@ -106,6 +106,16 @@ pub record SaysRun (name run : List ℕ) : Type 0 where
   pub is_run : IsRun run
   pub is_digits : is_random digits ≡ true
 
+-- ---- what the file of a lock has
+
+abbrev pub is_zero : ℕ → Bool
+is_zero byte = byte == 0
+
+-- the run that holds it, as a line, or no bytes, or zeros alone
+pub data IsLockText (text : List ℕ) : Type 0 where
+  said : (run : List ℕ) → text ≡ run ++ (10 ∷ []) → IsRun run → IsLockText text
+  lost : list_all is_zero text ≡ true → IsLockText text
+
 -- ---- names that are made
 
 -- what a letter of a host's name is in the name of a run: itself, or `_`

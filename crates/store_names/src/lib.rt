@@ -36,6 +36,6 @@ pub use parts::Part;
 pub use paths::{folder_in, last_of, path_in};
 pub use patterns::{Pattern, PatternFault};
 pub use temporary::{
-    RANDOM_DIGITS, UNFINISHED, is_free, is_left_by, is_of_runs, is_run, is_unfinished, lock_name,
-    run_named, run_of, tag_of_part,
+    RANDOM_DIGITS, UNFINISHED, is_free, is_left_by, is_lock_text, is_of_runs, is_run,
+    is_unfinished, lock_name, run_named, run_of, tag_of_part,
 };

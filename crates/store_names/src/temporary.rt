@@ -5,12 +5,12 @@ ghost use Rattle.std.specs.Char.{is_ascii_digit};
 ghost use Rattle.std.specs.Fmt.{decimal};
 ghost use Rattle.std.proofs.Math.Dec.{eqb};
 ghost use Rattle.store_names.specs.RunFiles.{IsBeforeRun, IsLeftBy, IsLock, IsOfRuns, IsOfUnfinished, IsOwn, IsPart, IsRun, IsRunIn};
-ghost use Rattle.store_names.specs.RunFiles.{IsTag, SaysRun};
+ghost use Rattle.store_names.specs.RunFiles.{IsLockText, IsTag, SaysRun, is_zero};
 ghost use Rattle.store_names.specs.RunFiles.{is_host, is_number, is_of_host, is_random, kept, lock_of, run_named, tag_of};
 ghost use Rattle.store_names.specs.Texts.{lacks};
 ghost use Rattle.store_names.specs.Temporary.{ends_in_digits, is_digit, is_free, is_unfinished};
 
-use crate::texts::{after, around_first, around_last};
+use crate::texts::{after, around_first, around_last, until};
 use std::alloc::{AllocError, Global};
 
 /// How the name of a file begins that isn't whole yet.
@@ -217,6 +217,28 @@ fn is_own(text: &str) -> bool
         Some((run, digits)) => is_random(digits) && is_run(run),
         None => is_random(text),
     }
+}
+
+/// Whether the file of a lock can have a text: a line that says a run, or no bytes, or zeros alone, as a power failure leaves them in place
+/// of a line that wasn't on the disk yet.
+pub fn is_lock_text(text: &str) -> bool
+    ensures { IsTrue result ↔ IsLockText text.now }
+{
+    match until(text, "\n") {
+        Some(run) => is_run(run),
+        None => are_zeros(text.as_bytes()),
+    }
+}
+
+/// Whether bytes are zeros alone.
+fn are_zeros(bytes: &[u8]) -> bool
+    ensures { result ≡ list_all is_zero bytes.now }
+{
+    bytes.iter().all(
+        |byte|
+            ensures { result ≡ is_zero byte.now }
+        { *byte == 0 },
+    )
 }
 
 /// The name of the lock of part I of N.

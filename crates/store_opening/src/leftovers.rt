@@ -1,6 +1,7 @@
 //! What runs that were killed have left: it is removed by the next run that writes to the same.
 use crate::locks::Locks;
 use crate::sharing::OtherRun;
+use std::alloc::AllocError;
 use std::io;
 use store_faults::{say, words_of};
 use store_folder::{Leftover, Listing, is_left_by, left_in, remove_leftover};
@@ -46,26 +47,24 @@ fn remove(rt: &HostRuntime, locks: &Locks, path: &str, is_known_dead: bool) -> i
         )?;
         return Ok(true);
     }
-    match remove_leftover(rt, path, is_known_dead) {
+    let done = remove_leftover(rt, path, is_known_dead);
+    say_done(rt, path, &done)?;
+    Ok(!matches!(done, Leftover::Refused(_)))
+}
+
+/// Says what became of a leftover at a path, unless it was left to another run.
+fn say_done(rt: &HostRuntime, path: &str, done: &Leftover) -> Result<(), AllocError> {
+    let alloc = rt.alloc();
+    let what = match done {
         Leftover::Removed => {
-            say(
-                rt,
-                format!(in rt.alloc();
-                    "rebuild-store: {path}: was left by a run that was killed, and is removed"
-                ),
-            )?;
-            Ok(true)
+            String::from_str(alloc, "was left by a run that was killed, and is removed")?
         }
-        Leftover::Kept => Ok(true),
+        Leftover::Kept => return Ok(()),
+        Leftover::NoLock => String::from_str(alloc, "has the name of a lock and isn't one")?,
         Leftover::Refused(error) => {
-            let why = words_of(rt.alloc(), &error)?;
-            say(
-                rt,
-                format!(in rt.alloc();
-                    "rebuild-store: {path}: is left over, and can't be removed: {why}"
-                ),
-            )?;
-            Ok(false)
+            let why = words_of(alloc, error)?;
+            format!(in alloc; "is left over, and can't be removed: {why}")?
         }
-    }
+    };
+    say(rt, format!(in alloc; "rebuild-store: {path}: {what}"))
 }

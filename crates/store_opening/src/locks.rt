@@ -260,7 +260,7 @@ fn open_lock(rt: &HostRuntime, path: &str) -> io::Result<LockFile> {
     let mut options = File::options();
     options.read(true).write(true);
     let mut new = File::options();
-    new.write(true).create_new(true);
+    new.read(true).write(true).create_new(true);
     match new.open(rt, path) {
         Ok(file) => Ok(LockFile { file, is_new: true }),
         Err(error) if error.kind() == ErrorKind::AlreadyExists => {

@@ -63,7 +63,7 @@ pub fn is_in_common(common: Option<u64>, length: u64) -> bool
 impl Stripe<'_> {
     /// How many bytes each of the stripe's files has, as [`StripeFiles::length`], if memory can be as long.
     pub fn length(&self) -> Option<usize>
-        ensures { IfSome result (IsLengthOf self.now.files.found) }
+        ensures { MatchOption result ((len : ℕ) → ¬ IsLengthOf self.now.files.found len) (IsLengthOf self.now.files.found) }
     {
         usize::try_from(self.files.length()?).ok()
     }

@@ -29,11 +29,12 @@ pub fn lost(rt: &HostRuntime, options: &LostOptions<'_>) -> Result<u8, FileFault
     let opening = opening_of(&options.store);
     let store = open_store(rt, &opening)?;
     let form = if options.json { Rows::Json } else { Rows::Csv };
-    write_requests(rt, &store, &opening, form).map_err(|error| device(
-        rt.alloc(),
-        opening.folder,
-        error,
-    ))
+    let status = write_requests(rt, &store, &opening, form);
+    drop(store);
+    match status {
+        Ok(status) => Ok(status),
+        Err(error) => Err(device(rt.alloc(), opening.folder, error)),
+    }
 }
 
 /// Writes the request list of an open store.
@@ -43,36 +44,63 @@ fn write_requests<'a>(
     opening: &Opening<'a>,
     form: Rows,
 ) -> io::Result<u8> {
-    let alloc = rt.alloc();
-    let mut output = BufWriter::new(alloc, io::writer(rt))?;
+    let stripes = store.stripes(rt)?;
+    let mut output = BufWriter::new(rt.alloc(), io::writer(rt))?;
     if form == Rows::Csv {
         output.write_all(header_of(store.code).as_bytes())?;
     }
-    let stripes = store.stripes(rt)?;
-    let site = store.site_of(opening);
-    let files = FolderStore::new(rt, site);
     say_alone(rt, store, opening, false);
+    let site = store.site_of(opening);
+    let counts = write_each(rt, store, &site, stripes.as_slice(), form, &mut output);
+    drop(output);
+    let counts = counts?;
+    let Counts { lost, unlisted, .. } = counts;
+    say(rt, listed(rt.alloc(), stripes.len() as u64, lost, unlisted))?;
+    Ok(status_of(&counts))
+}
+
+/// Writes the requests of one stripe after the other, and counts what was found.
+fn write_each<'a, W: Write>(
+    rt: &'a HostRuntime,
+    store: &OpenStore,
+    site: &Site<'a>,
+    stripes: &[Stripe<'_>],
+    form: Rows,
+    output: &mut W,
+) -> io::Result<Counts> {
+    let files = FolderStore::new(rt, *site);
     let mut counts = Counts {
         lost: 0,
         unlisted: 0,
         is_left: false,
         is_device: store.has_unlisted,
     };
-    for stripe in &stripes {
+    for stripe in stripes {
         if store.found.described.contains(stripe.name) {
-            say_descriptions(rt, &site, stripe, &mut counts)?;
+            say_descriptions(rt, site, stripe, &mut counts)?;
         }
-        let Some(length) = length_of(rt, &files, &site, stripe)? else {
-            counts.is_left = true;
-            continue;
-        };
-        let requests = requests_of(rt, &site, stripe, length, form, &mut counts)?;
-        output.write_all(requests.as_bytes())?;
+        write_of(rt, &files, site, stripe, form, &mut counts, output)?;
     }
     output.flush()?;
-    let Counts { lost, unlisted, .. } = counts;
-    say(rt, listed(alloc, stripes.len() as u64, lost, unlisted))?;
-    Ok(status_of(&counts))
+    Ok(counts)
+}
+
+/// Writes the requests of a stripe, and counts what was found.
+fn write_of<W: Write>(
+    rt: &HostRuntime,
+    files: &FolderStore<'_, SystemFolder<'_>>,
+    site: &Site<'_>,
+    stripe: &Stripe<'_>,
+    form: Rows,
+    counts: &mut Counts,
+    output: &mut W,
+) -> io::Result<()> {
+    let Some(length) = length_of(rt, files, site, stripe)? else {
+        counts.is_left = true;
+        return Ok(());
+    };
+    let requests = requests_of(rt, site, stripe, length, form, counts)?;
+    output.write_all(requests.as_bytes())
 }
 
 /// The exit status.

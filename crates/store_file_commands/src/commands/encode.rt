@@ -1,11 +1,12 @@
 //! The command `encode`.
+use crate::tally::{Tally, released, write_line};
 use lrc_code::Code;
 use std::fs;
 use std::io::ErrorKind;
 use std::thread::Threads;
 use store_arguments::EncodeOptions;
 use store_encoding::{SourceFile, Spool, encode_file, stored_sums, write_new_sums};
-use store_faults::{DEVICE, DONE, FileFault, StoreFault, device, say, write};
+use store_faults::{FileFault, StoreFault, device};
 use store_files::Target;
 use store_folder::{Listing, Others, SystemFolder, Wanted, list};
 use store_opening::{
@@ -23,10 +24,7 @@ pub fn encode<R: Threads + Sync>(
     make_folder(rt, options.folder)?;
     let locks = Locks::take(rt, options.folder, None)?;
     let status = encode_locked(threads, rt, options, &locks);
-    let released = locks.release(rt);
-    let status = status?;
-    released.map_err(|error| device(rt.alloc(), options.folder, error))?;
-    Ok(status)
+    released(rt, options.folder, status, locks.release(rt))
 }
 
 /// Encodes files into a folder out of which other runs are kept.
@@ -36,34 +34,58 @@ fn encode_locked<R: Threads + Sync>(
     options: &EncodeOptions<'_>,
     locks: &Locks,
 ) -> Result<u8, FileFault> {
-    let alloc = rt.alloc();
     let listing = listed(rt, options)?;
-    locks.refuse_other_parts(rt, listing.leftovers.as_slice())?;
-    let is_clean = remove_leftovers(rt, locks, &listing, "").map_err(|error| device(
-        alloc,
-        options.folder,
-        error,
-    ))?;
-    let mut target = target_of(rt, options, &listing)?;
-    let Encoded { count, status } = encode_all(threads, rt, options, &mut target)?;
-    write_new_sums(rt, &mut SystemFolder::new(rt), &target)?;
-    let left = (options.files.len() as u64).saturating_sub(count);
+    let ready = readied(rt, options, locks, &listing);
+    drop(listing);
+    let Ready {
+        mut target,
+        is_clean,
+    } = ready?;
+    let done = encode_into(threads, rt, options, &mut target, is_clean);
+    drop(target);
+    let done = done?;
     if !options.quiet {
-        write(rt, encoded(alloc, count, left)).map_err(|error| device(
-            alloc,
-            "standard output",
-            error,
-        ))?;
+        let left = done.left_of(options.files.len());
+        write_line(rt, encoded(rt.alloc(), done.done, left))?;
     }
-    let unclean = if is_clean { DONE } else { DEVICE };
-    Ok(status.max(unclean))
+    Ok(done.status)
 }
 
-/// How many files were encoded, and the exit status that the others ask for.
-#[derive(Clone, Copy)]
-struct Encoded {
-    count: u64,
-    status: u8,
+/// A store that can be encoded into, and whether all that killed runs had left there could be removed.
+#[derive(Drop)]
+struct Ready<'o> {
+    target: Target<'o>,
+    is_clean: bool,
+}
+
+/// The store that is encoded into, without what killed runs had left there.
+fn readied<'o>(
+    rt: &HostRuntime,
+    options: &EncodeOptions<'o>,
+    locks: &Locks,
+    listing: &Listing,
+) -> Result<Ready<'o>, FileFault> {
+    locks.refuse_other_parts(rt, listing.leftovers.as_slice())?;
+    match remove_leftovers(rt, locks, listing, "") {
+        Ok(is_clean) => Ok(Ready {
+            target: target_of(rt, options, listing)?,
+            is_clean,
+        }),
+        Err(error) => Err(device(rt.alloc(), options.folder, error)),
+    }
+}
+
+/// Encodes the files into a store, and writes its list of digests anew.
+fn encode_into<R: Threads + Sync>(
+    threads: &R,
+    rt: &HostRuntime,
+    options: &EncodeOptions<'_>,
+    target: &mut Target<'_>,
+    is_clean: bool,
+) -> Result<Tally, FileFault> {
+    let done = encode_all(threads, rt, options, target, is_clean)?;
+    write_new_sums(rt, &mut SystemFolder::new(rt), target)?;
+    Ok(done)
 }
 
 /// The work on the files, each of which is digested and then encoded.
@@ -91,22 +113,13 @@ fn encode_all<R: Threads + Sync>(
     rt: &HostRuntime,
     options: &EncodeOptions<'_>,
     target: &mut Target<'_>,
-) -> Result<Encoded, FileFault> {
+    is_clean: bool,
+) -> Result<Tally, FileFault> {
     let progress = Progress::new(rt, task_of(rt, options), options.quiet);
-    let mut done = Encoded {
-        count: 0,
-        status: DONE,
-    };
+    let mut done = Tally::new(is_clean);
     for path in &options.files {
-        match encode_one(threads, rt, options, target, path, &progress) {
-            Ok(()) => done.count = done.count.saturating_add(1),
-            Err(FileFault::OutOfMemory) => return Err(FileFault::OutOfMemory),
-            Err(fault) => {
-                progress.clear(rt);
-                let _ = say(rt, format!(in rt.alloc(); "rebuild-store: {fault}"));
-                done.status = done.status.max(fault.status());
-            }
-        }
+        let encoded = encode_one(threads, rt, options, target, path, &progress);
+        done.note(rt, Some(&progress), encoded)?;
         progress.count_file(rt, length_of(rt, path));
     }
     progress.clear(rt);

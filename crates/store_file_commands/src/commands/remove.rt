@@ -1,8 +1,10 @@
 //! The command `remove`.
+use crate::tally::{Tally, released, write_line};
 use lrc_code::Code;
+use std::alloc::AllocError;
 use store_arguments::RemoveOptions;
 use store_encoding::{remove_stored, stored_sums};
-use store_faults::{DEVICE, DONE, FileFault, device, say, write};
+use store_faults::{FileFault, device};
 use store_files::Target;
 use store_opening::{Access, OpenStore, Opening, open_store, remove_leftovers};
 use store_reports::removed;
@@ -23,10 +25,9 @@ pub fn remove(rt: &HostRuntime, options: &RemoveOptions<'_>) -> Result<u8, FileF
     };
     let store = open_store(rt, &opening)?;
     let status = remove_all(rt, options, &store);
-    let released = store.locks.release(rt);
-    let status = status?;
-    released.map_err(|error| device(rt.alloc(), options.folder, error))?;
-    Ok(status)
+    let is_released = store.locks.release(rt);
+    drop(store);
+    released(rt, options.folder, status, is_released)
 }
 
 /// Takes files out of an open store.
@@ -35,34 +36,34 @@ fn remove_all(
     options: &RemoveOptions<'_>,
     store: &OpenStore,
 ) -> Result<u8, FileFault> {
-    let alloc = rt.alloc();
-    let is_clean = remove_leftovers(rt, &store.locks, &store.listing, "").map_err(|error| device(
-        alloc,
-        options.folder,
-        error,
-    ))?;
+    let is_clean = match remove_leftovers(rt, &store.locks, &store.listing, "") {
+        Ok(is_clean) => is_clean,
+        Err(error) => return Err(device(rt.alloc(), options.folder, error)),
+    };
     let mut target = target_of(rt, options, store.code)?;
-    let mut status = if is_clean { DONE } else { DEVICE };
-    let mut count = 0u64;
-    for name in &options.names {
-        match remove_stored(rt, &mut target, name) {
-            Ok(()) => count = count.saturating_add(1),
-            Err(FileFault::OutOfMemory) => return Err(FileFault::OutOfMemory),
-            Err(fault) => {
-                let _ = say(rt, format!(in rt.alloc(); "rebuild-store: {fault}"));
-                status = status.max(fault.status());
-            }
-        }
-    }
-    let left = (options.names.len() as u64).saturating_sub(count);
+    let done = remove_each(rt, options, &mut target, is_clean);
+    drop(target);
+    let done = done?;
     if !options.quiet {
-        write(rt, removed(alloc, count, left)).map_err(|error| device(
-            alloc,
-            "standard output",
-            error,
-        ))?;
+        let left = done.left_of(options.names.len());
+        write_line(rt, removed(rt.alloc(), done.done, left))?;
     }
-    Ok(status)
+    Ok(done.status)
+}
+
+/// Takes the files out of a store one after the other.
+fn remove_each(
+    rt: &HostRuntime,
+    options: &RemoveOptions<'_>,
+    target: &mut Target<'_>,
+    is_clean: bool,
+) -> Result<Tally, AllocError> {
+    let mut done = Tally::new(is_clean);
+    for name in &options.names {
+        let removed = remove_stored(rt, target, name);
+        done.note(rt, None, removed)?;
+    }
+    Ok(done)
 }
 
 /// The store that files are taken out of.

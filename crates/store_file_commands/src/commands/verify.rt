@@ -1,22 +1,34 @@
 //! The command `verify`.
+use crate::tally::{Tally, write_line};
+use std::alloc::{AllocError, Global};
 use store_arguments::VerifyOptions;
-use store_faults::{DONE, FileFault, device, write};
+use store_faults::FileFault;
 use store_files::{StoredFile, first_described};
-use store_opening::{Opening, open_store};
+use store_opening::{OpenStore, Opening, open_store};
 use store_progress::{Operation, Progress, Task};
 use store_reading::verify_file;
 use store_reports::verified;
 
 /// Holds files to their digests, says which of them don't have these, and gives the exit status.
 pub fn verify(rt: &HostRuntime, options: &VerifyOptions<'_>) -> Result<u8, FileFault> {
-    let alloc = rt.alloc();
-    let mut status = DONE;
-    let mut count = 0u64;
-    let mut left = 0u64;
     let names = names_of(rt, options)?;
+    let done = verify_each(rt, options, names.as_slice())?;
+    if !options.quiet {
+        let left = done.left_of(names.len());
+        write_line(rt, verified(rt.alloc(), done.done, left))?;
+    }
+    Ok(done.status)
+}
+
+/// Holds the files of these names to their digests, one after the other.
+fn verify_each(
+    rt: &HostRuntime,
+    options: &VerifyOptions<'_>,
+    names: &[String],
+) -> Result<Tally, FileFault> {
     let is_seen = Progress::is_seen(rt, options.quiet);
     let bytes = if is_seen {
-        bytes_of(rt, options, names.as_slice())?
+        bytes_of(rt, options, names)?
     } else {
         0
     };
@@ -27,7 +39,8 @@ pub fn verify(rt: &HostRuntime, options: &VerifyOptions<'_>) -> Result<u8, FileF
         passes: 1,
     };
     let progress = Progress::new(rt, task, !is_seen);
-    for name in &names {
+    let mut done = Tally::new(true);
+    for name in names {
         let file = StoredFile {
             folder: options.folder,
             pattern: options.naming.pattern,
@@ -35,28 +48,13 @@ pub fn verify(rt: &HostRuntime, options: &VerifyOptions<'_>) -> Result<u8, FileF
             links: options.links,
             progress: Some(&progress),
         };
-        match verify_file(rt, &file) {
-            Ok(()) => count = count.saturating_add(1),
-            Err(FileFault::OutOfMemory) => return Err(FileFault::OutOfMemory),
-            Err(fault) => {
-                file.say(rt, format!(in alloc; "rebuild-store: {fault}"));
-                status = status.max(fault.status());
-                left = left.saturating_add(1);
-            }
-        }
+        done.note(rt, Some(&progress), verify_file(rt, &file))?;
         if is_seen {
             progress.count_file(rt, length_of(rt, &file)?);
         }
     }
     progress.clear(rt);
-    if !options.quiet {
-        write(rt, verified(alloc, count, left)).map_err(|error| device(
-            alloc,
-            "standard output",
-            error,
-        ))?;
-    }
-    Ok(status)
+    Ok(done)
 }
 
 /// How long files of these names are together.
@@ -89,23 +87,36 @@ fn length_of(rt: &HostRuntime, file: &StoredFile<'_, '_>) -> Result<u64, FileFau
 
 /// The names that are given, or those of all files of the store.
 fn names_of(rt: &HostRuntime, options: &VerifyOptions<'_>) -> Result<Vec<String>, FileFault> {
-    let alloc = rt.alloc();
+    if !options.names.is_empty() {
+        return Ok(given_names(rt.alloc(), options.names.as_slice())?);
+    }
+    let opening = Opening::to_read(
+        options.folder,
+        None,
+        options.naming.text,
+        options.naming.pattern,
+        options.links,
+    );
+    let store = open_store(rt, &opening)?;
+    let names = described_names(rt.alloc(), &store);
+    drop(store);
+    Ok(names?)
+}
+
+/// A copy of names.
+fn given_names(alloc: Global, given: &[&str]) -> Result<Vec<String>, AllocError> {
     let mut names = Vec::new(alloc);
-    for name in &options.names {
+    for name in given {
         names.push(String::from_str(alloc, *name)?)?;
     }
-    if names.is_empty() {
-        let opening = Opening::to_read(
-            options.folder,
-            None,
-            options.naming.text,
-            options.naming.pattern,
-            options.links,
-        );
-        let store = open_store(rt, &opening)?;
-        for name in store.found.described.iter() {
-            names.push(String::from_str(alloc, name.as_str())?)?;
-        }
+    Ok(names)
+}
+
+/// The names of all files of a store.
+fn described_names(alloc: Global, store: &OpenStore) -> Result<Vec<String>, AllocError> {
+    let mut names = Vec::new(alloc);
+    for name in store.found.described.iter() {
+        names.push(String::from_str(alloc, name.as_str())?)?;
     }
     Ok(names)
 }
