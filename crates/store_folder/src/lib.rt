@@ -3,45 +3,33 @@
 
 mod described;
 mod digesting;
-mod disks;
 mod exchanging;
-mod expecting;
 mod folder_store;
 mod giving;
 mod laws;
-mod leaving;
 mod links;
-mod listed_descriptions;
-mod listed_folders;
 mod listed_fragments;
-mod listing;
 mod placing;
 mod regular;
 mod replacing;
 mod same;
 mod separate;
 mod site;
-mod stripe_names;
 mod sums;
 mod surviving;
 mod syncing;
 mod unfinished;
 mod unfinished_file;
-mod watching;
 mod writing;
 
 pub use described::read_description;
 pub use digesting::{digest_of, digests_of};
-pub use disks::Unlisted;
 pub use exchanging::exchange_new;
-pub use expecting::expect_listed;
 pub use folder_store::FolderStore;
 pub use folders::{Identity, SystemFolder, SystemNew, SystemOpen, folder_of, is_absent};
 pub use giving::give_name;
 pub use laws::goes_on;
-pub use leaving::left_in;
 pub use links::{Links, followed, look_at, refuse_linked_folders};
-pub use listing::{Listing, list};
 pub use placing::{
     NewFile, create_new, create_private, discard_new, place_again, place_new, sync_folder,
 };
@@ -55,11 +43,9 @@ pub use store_names::{
 };
 pub use store_records::{Described, Digest, MOST_BYTES, Sums, SumsFault, digits_of};
 pub use stores::{Found, Placed, StripeFiles};
-pub use stripe_names::{Alone, Others, StoreStripes, StripeNames};
 pub use sums::{SUMS_NAME, read_sums};
 pub use surviving::{FileFragment, open_fragment};
 pub use syncing::Touched;
 pub use unfinished::{Leftover, MOST_OF_LOCK, is_of_run, remove_leftover};
 pub use unfinished_file::UnfinishedFile;
-pub use watching::{Foreign, Wanted, Watched};
 pub use writing::write_over;

@@ -3,9 +3,8 @@ use crate::opening::Opening;
 use std::fs;
 use std::io::{self, BufRead, BufReader, ErrorKind};
 use store_faults::{StoreFault, device_fault, say};
-use store_folder::{
-    Links, Listing, SUMS_NAME, Sums, SumsFault, Wanted, expect_listed, look_at, path_in, read_sums,
-};
+use store_folder::{Links, SUMS_NAME, Sums, SumsFault, look_at, path_in, read_sums};
+use store_listing::{Listing, Wanted, expect_listed};
 
 /// Notes what has to be there by a list, the digests and what these name, and gives the digests.
 pub(crate) fn expected(

@@ -4,7 +4,8 @@ use crate::sharing::OtherRun;
 use std::alloc::AllocError;
 use std::io;
 use store_faults::{say, words_of};
-use store_folder::{Leftover, Listing, is_left_by, left_in, remove_leftover};
+use store_folder::{Leftover, is_left_by, remove_leftover};
+use store_listing::{Listing, left_in};
 use store_names::last_of;
 
 /// Removes what a killed run with this tag has left in a folder that was listed, and in those that its links lead to. Each file that is

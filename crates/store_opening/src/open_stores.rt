@@ -9,10 +9,8 @@ use lrc_code::Code;
 use std::alloc::AllocError;
 use std::mem;
 use store_faults::{COUNTER_PREFIX, REPORT_HEADER, ROW_BEGIN, StoreFault};
-use store_folder::{
-    DESCRIPTION, Listing, Site, StoreStripes, StripeNames, Sums, Wanted, Watched, followed,
-    is_ambiguous,
-};
+use store_folder::{DESCRIPTION, Site, Sums, followed, is_ambiguous};
+use store_listing::{Listing, StoreStripes, StripeNames, Wanted, Watched};
 use store_repair::Stripe;
 
 /// How what runs write to such paths begins.

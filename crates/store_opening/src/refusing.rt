@@ -5,7 +5,7 @@ use lrc_code::Code;
 use std::fs;
 use std::os::unix::fs::MetadataExt;
 use store_faults::StoreFault;
-use store_folder::{Listing, Others};
+use store_listing::{Listing, Others};
 
 /// Refuses to write where others may write, or where a run works that divides the store into other parts, if anything is to be written.
 pub(crate) fn refuse_writing(

@@ -3,7 +3,8 @@ use lrc_code::Code;
 use std::alloc::AllocError;
 use std::io::ErrorKind;
 use store_faults::{StoreFault, device_fault, say, words_of};
-use store_folder::{Listing, Pattern, Unlisted, Wanted, is_folder_of, list};
+use store_folder::{Pattern, is_folder_of};
+use store_listing::{Listing, Unlisted, Wanted, list};
 
 /// Lists a folder, and says how many links weren't followed, and the first of them.
 pub(crate) fn listed(

@@ -5,7 +5,8 @@ use std::alloc::{AllocError, Global};
 use std::fs;
 use std::os::unix::fs::MetadataExt;
 use store_faults::{NO_MEDIUM, StoreFault, say};
-use store_folder::{Found, Links, Pattern, StoreStripes, look_at, path_in};
+use store_folder::{Found, Links, Pattern, look_at, path_in};
+use store_listing::StoreStripes;
 use store_names::{disk_folders, folder_in};
 
 /// The folders of a pattern's disks that are on the device of the store's own folder, if more of them are on others: no disk is mounted at

@@ -7,7 +7,8 @@ use lrc_code::{Code, Place, is_stripe_name};
 use std::alloc::{AllocError, Global};
 use std::io::ErrorKind;
 use store_faults::{fragment_name, without_number};
-use store_folder::{Alone, Pattern, Site};
+use store_folder::{Pattern, Site};
+use store_listing::Alone;
 use store_repair::{Finding, Found, Reason, Stripe};
 
 /// What is said of a file that is named as a fragment and is of no stripe.

@@ -2,7 +2,8 @@
 use crate::done::Done;
 use crate::totals::{Totals, totals_of};
 use std::alloc::{AllocError, Global};
-use store_folder::{Alone, Site};
+use store_folder::Site;
+use store_listing::Alone;
 use store_repair::Stripe;
 
 /// What is in a store.

@@ -8,7 +8,7 @@ use serde_json::Value;
 use std::alloc::{AllocError, Global};
 use std::io::{self, ErrorKind};
 use store_faults::{Descriptions, REPORT_HEADER, ROW_BEGIN};
-use store_folder::Alone;
+use store_listing::Alone;
 use store_repair::StripeOutcome;
 
 /// The form of a report's rows.

@@ -5,7 +5,8 @@ use std::alloc::{AllocError, Global};
 use std::io;
 use std::process::Abort;
 use store_faults::{CopyFinding, CopyReason, Descriptions};
-use store_folder::{Alone, Links, Pattern, Site};
+use store_folder::{Links, Pattern, Site};
+use store_listing::Alone;
 use store_repair::{Finding, Found, Reads, Reason, Repair, Stripe, StripeFiles, StripeOutcome};
 use store_reports::{
     Contents, Done, Results, Rows, alone_lines, finding_lines, planned, repaired, rows_of,

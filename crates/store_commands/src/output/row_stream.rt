@@ -3,7 +3,7 @@ use std::alloc::AllocError;
 use std::io::{self, Error, ErrorKind};
 use std::sync::atomic::{AtomicU64, Ordering};
 use store_faults::{say, words_of};
-use store_folder::Alone;
+use store_listing::Alone;
 use store_progress::allow_output;
 use store_reports::{Done, RowSource, Rows, add_alone, add_stripe};
 

@@ -8,7 +8,8 @@ use store_arguments::EncodeOptions;
 use store_encoding::{SourceFile, Spool, encode_file, stored_sums, write_new_sums};
 use store_faults::{FileFault, StoreFault, device};
 use store_files::Target;
-use store_folder::{Listing, Others, SystemFolder, Wanted, list};
+use store_folder::SystemFolder;
+use store_listing::{Listing, Others, Wanted, list};
 use store_opening::{
     Locks, other_than, refuse_unmounted, refuse_untrusted, remove_leftovers, say_links,
 };

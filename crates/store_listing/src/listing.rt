@@ -1,6 +1,5 @@
 //! What is in a store: which fragments of which stripes, and how many bytes each has; no times are kept.
 use crate::disks::Unlisted;
-use crate::links::{Links, followed, look_at};
 use crate::stripe_names::StripeNames;
 use crate::watching::{Foreign, Wanted, Watched};
 use folders::folder_of;
@@ -8,6 +7,7 @@ use std::alloc::{AllocError, Global};
 use std::collections::BTreeSet;
 use std::fs::{self, Metadata};
 use std::io::{self, ErrorKind};
+use store_folder::{Links, followed, look_at};
 use store_names::{disk_folders, is_ambiguous, is_of_runs, last_of, path_in};
 use stores::Found;
 

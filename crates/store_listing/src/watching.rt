@@ -1,12 +1,10 @@
 //! How a store is listed, and what is looked out for meanwhile: a path that may be one of its names, folders that others may write into.
-use crate::links::Links;
-use crate::regular::open_regular;
-use crate::sums::SUMS_NAME;
 use folders::{Identity, folder_of};
 use lrc_code::Code;
 use std::fs::{self, Metadata};
 use std::io::Read;
 use std::os::unix::fs::MetadataExt;
+use store_folder::{Links, SUMS_NAME, open_regular};
 use store_names::{KEPT, Part, Pattern, described_stripe, is_of_runs, last_of};
 
 /// The rights by which others than a file's user may write: of the group, and of everybody.

@@ -1,9 +1,9 @@
 //! Descriptions that are met while a store is listed.
-use crate::described::read_description;
 use crate::listing::Listing;
 use crate::watching::Wanted;
 use std::alloc::AllocError;
 use std::io::ErrorKind;
+use store_folder::read_description;
 use store_names::{described_stripe, folder_in, is_folder_of, last_of, path_in};
 
 impl Listing {

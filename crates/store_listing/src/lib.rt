@@ -1,0 +1,23 @@
+//! What is in the folder of a store: fragments, descriptions, folders, and files that runs have left, by their names.
+//!
+//! ```rust
+//! let wanted = Wanted { pattern, code, knows_code: true, has_stripes: true, part: None, links, watched: &[] };
+//! let listing = list(&rt, "store", &wanted)?;
+//! ```
+#![tactic(auto)]
+
+mod disks;
+mod expecting;
+mod leaving;
+mod listed_descriptions;
+mod listed_folders;
+mod listing;
+mod stripe_names;
+mod watching;
+
+pub use disks::Unlisted;
+pub use expecting::expect_listed;
+pub use leaving::left_in;
+pub use listing::{Listing, list};
+pub use stripe_names::{Alone, Others, StoreStripes, StripeNames};
+pub use watching::{Foreign, Wanted, Watched};
