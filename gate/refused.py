@@ -65,15 +65,7 @@ def in_copies(edits):
 
 def command(crate, functions, kept):
     """The prover's words for the proof of functions and of what they call."""
-    kit = pathlib.Path(subprocess.run(["rt", "doc"], check=True, capture_output=True, text=True).stdout.strip()).parent
-    own = {it.name: BELOW / "crates" / it.name / "out/rlib" for it in crate.all_below()}
-    words = [kit / "bin/rattle", "check", "--crate-name", crate.name, "src/lib.rt"]
-    for name in ["std", *crate.line.partition(":")[2].split()]:
-        words += ["--extern", f"{name}={own.get(name, kit / 'rlibs')}/{name}.rlib"]
-    for folder in [kit / "rlibs", *own.values()]:
-        words += ["-L", f"dependency={folder}"]
-    words += ["--antt-project", kit / "rattle/logic/antt-project.json", "--logic-built", kit / "logic_built"]
-    words += ["--jobs", "1", "--incremental", kept]
+    words = [*crate.prover("check", BELOW / "crates", 1), "--incremental", kept]
     return words + [it for function in functions for it in ("--only", function)]
 
 

@@ -125,18 +125,22 @@ class Crate:
         given = ["--", *words.read_text().splitlines()] if self.is_program and words.is_file() else []
         return ["rt", verb, "--jobs", str(jobs), *([self.option(level)] if self.has_levels() else []), *given]
 
-    def command_by_ci(self, level, jobs):
-        """The same of a static library over crates that `rt ci` built: the prover's own words, since `rt lib` would prove those again."""
-        kit = pathlib.Path(subprocess.run(["rt", "doc"], check=True, capture_output=True, text=True).stdout.strip()).parent
-        own = {it.name: f"../{it.name}/out/rlib" for it in self.all_below()}
-        words = [kit / "bin/rattle", "build", "--crate-name", self.name, "src/lib.rt", "--crate-type", "staticlib"]
+    def prover(self, verb, crates, jobs):
+        """The prover's own words for this crate, a library, over those below it as they were proved in a folder of crates, of which `rt`
+        would prove them again."""
+        kit = toolchain()
+        own = {it.name: f"{crates}/{it.name}/out/rlib" for it in self.all_below()}
+        words = [kit / "bin/rattle", verb, "--crate-name", self.name, "src/lib.rt", "--jobs", str(jobs)]
         for name in ["std", *self.line.partition(":")[2].split()]:
             words += ["--extern", f"{name}={own.get(name, kit / 'rlibs')}/{name}.rlib"]
         for folder in [kit / "rlibs", *own.values()]:
             words += ["-L", f"dependency={folder}"]
-        words += ["--antt-project", kit / "rattle/logic/antt-project.json", "--logic-built", kit / "logic_built"]
-        words += ["--toolchain", kit / "toolchain", "--backend", "llvm", self.option(level), "--jobs", str(jobs)]
-        return [*words, "--incremental", "out/incremental", "-o", f"out/{self.made()}"]
+        return [*words, "--antt-project", kit / "rattle/logic/antt-project.json", "--logic-built", kit / "logic_built"]
+
+    def command_by_ci(self, level, jobs):
+        """The same of a static library over crates that `rt ci` built."""
+        words = [*self.prover("build", "..", jobs), "--crate-type", "staticlib", "--toolchain", toolchain() / "toolchain"]
+        return [*words, "--backend", "llvm", self.option(level), "--incremental", "out/incremental", "-o", f"out/{self.made()}"]
 
     @functools.lru_cache(maxsize=None)
     def inputs(self, root, level, kit):
@@ -159,6 +163,12 @@ class Crate:
     def is_built(self, inputs, level):
         file = self.place(level) / "built"
         return file.is_file() and file.read_text() == self.record(inputs, level)
+
+
+@functools.lru_cache(maxsize=None)
+def toolchain():
+    """The folder of the toolchain."""
+    return pathlib.Path(subprocess.run(["rt", "doc"], check=True, capture_output=True, text=True).stdout.strip()).parent
 
 
 def is_target(level):

@@ -55,20 +55,35 @@ pub fn read_arguments<'a>(
 
 /// The definition of the program.
 fn program<'a>(alloc: Global) -> Result<Definition<'a>, AllocError> {
-    Definition::new(alloc, NAME)
-        .bin_name(NAME)?
-        .no_binary_name(true)
-        .version(VERSION)
-        .about(ABOUT)
-        .after_help(AFTER_HELP)
-        .subcommand(repair::definition(alloc)?)?
-        .subcommand(lost::definition(alloc)?)?
-        .subcommand(scrub::definition(alloc)?)?
-        .subcommand(encode::definition(alloc)?)?
-        .subcommand(read::definition(alloc)?)?
-        .subcommand(list::definition(alloc)?)?
-        .subcommand(verify::definition(alloc)?)?
-        .subcommand(remove::definition(alloc)?)
+    let program = without_commands(alloc);
+    let program = with(program, repair::definition(alloc));
+    let program = with(program, lost::definition(alloc));
+    let program = with(program, scrub::definition(alloc));
+    let program = with(program, encode::definition(alloc));
+    let program = with(program, read::definition(alloc));
+    let program = with(program, list::definition(alloc));
+    let program = with(program, verify::definition(alloc));
+    with(program, remove::definition(alloc))
+}
+
+/// The definition of the program without its commands.
+fn without_commands<'a>(alloc: Global) -> Result<Definition<'a>, AllocError> {
+    let program = Definition::new(alloc, NAME).bin_name(NAME)?;
+    Ok(
+        program
+            .no_binary_name(true)
+            .version(VERSION)
+            .about(ABOUT)
+            .after_help(AFTER_HELP),
+    )
+}
+
+/// The definition of a program with one more command, if memory was refused to neither.
+fn with<'a>(
+    program: Result<Definition<'a>, AllocError>,
+    command: Result<Definition<'a>, AllocError>,
+) -> Result<Definition<'a>, AllocError> {
+    program?.subcommand(command?)
 }
 
 /// The command that matches name.

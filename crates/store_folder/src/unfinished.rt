@@ -114,7 +114,7 @@ pub(crate) fn new_path(rt: &HostRuntime, folder: &str, tag: &str) -> io::Result<
 }
 
 /// What became of a file that has the name of one that a run which was killed has left.
-#[derive(Debug, Drop)]
+#[derive(Drop)]
 pub enum Leftover {
     Removed,
     /// It is no regular file, or a run works on it, so it stays.

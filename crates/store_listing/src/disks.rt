@@ -2,7 +2,7 @@
 use std::io;
 
 /// A folder that couldn't be listed: what is in it counts as lost.
-#[derive(Debug, Drop)]
+#[derive(Drop)]
 pub struct Unlisted {
     /// Its name in the store, and its path.
     pub name: String,
