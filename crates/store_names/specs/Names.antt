@@ -29,6 +29,14 @@ name_with p stripe key =
     p.before.now ++ (if p.is_stripe_first then stripe else key) ++ p.between.now ++ (if p.is_stripe_first then key else stripe)
     ++ p.after.now
 
+-- how a pattern is written: its name of `{stripe}`, for the place that is written `{place}`, or `{shard}` where it has a number
+abbrev pub written_key : Naming → List ℕ
+written_key ByPlace = codes "{place}"
+written_key ByShard = codes "{shard}"
+
+abbrev pub text_of : Pattern → List ℕ
+text_of p = name_with p (codes "{stripe}") (written_key p.naming)
+
 -- what may be a stripe's name: not empty, and without '/'
 abbrev pub is_stripe : List ℕ → Bool
 is_stripe stripe = nat_lt 0 (length stripe) && list_all (λ byte. not (byte == 47)) stripe

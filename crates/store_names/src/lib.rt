@@ -18,6 +18,7 @@ mod layouts;
 mod mounts;
 mod name_laws;
 mod names;
+mod parsing;
 mod parts;
 mod paths;
 mod patterns;
@@ -32,9 +33,10 @@ pub use layouts::Layout;
 pub use mounts::{Locking, locking_at};
 pub use name_laws::names_differ;
 pub use names::KEPT;
+pub use parsing::PatternFault;
 pub use parts::Part;
 pub use paths::{folder_in, last_of, path_in};
-pub use patterns::{Pattern, PatternFault};
+pub use patterns::Pattern;
 pub use temporary::{
     RANDOM_DIGITS, UNFINISHED, is_free, is_left_by, is_lock_text, is_of_runs, is_run,
     is_unfinished, lock_name, run_named, run_of, tag_of_part,

@@ -3,7 +3,6 @@ ghost use Rattle.std.specs.Prelude.{◌≡◌, true};
 ghost use Rattle.store_names.specs.Patterns.{keeps_apart};
 
 use crate::layouts::{Layout, Naming};
-use thiserror::Error;
 
 /// A pattern of names, relative to the store's folder. It has a stripe and a place, each once.
 #[derive(Clone, Copy, Debug)]
@@ -18,30 +17,13 @@ pub struct Pattern<'a> {
     ghost apart: { keeps_apart naming is_stripe_first between.now ≡ true },
 }
 
-/// Why a text is no pattern.
-#[derive(Clone, Copy, Debug, PartialEq, Eq, Error)]
-pub enum PatternFault {
-    #[error("the pattern of names needs {{stripe}} once, and {{place}} or {{shard}} once")]
-    NotOnce,
-    #[error("the pattern of names is no name below the store's folder")]
-    NotBelow,
-    #[error("the pattern of names needs something that is no digit between {{stripe}} and {{shard}}")]
-    Adjoining,
-}
-
-const STRIPE: &str = "{stripe}";
-
-const PLACE: &str = "{place}";
-
-const SHARD: &str = "{shard}";
-
 /// How many times a text goes into a folder.
 fn slashes(text: &str) -> usize {
     text.chars().filter(|letter| *letter == '/').count()
 }
 
 /// Whether a number that is before a text or after it can't have digits of what is beyond the text.
-fn keeps_apart(naming: Naming, is_stripe_first: bool, between: &[u8]) -> bool
+pub(crate) fn keeps_apart(naming: Naming, is_stripe_first: bool, between: &[u8]) -> bool
     ensures { result ≡ keeps_apart naming is_stripe_first between.now }
 {
     match naming {
@@ -54,11 +36,6 @@ fn keeps_apart(naming: Naming, is_stripe_first: bool, between: &[u8]) -> bool
             }
         }
     }
-}
-
-/// Whether a text has a brace, which only {stripe}, {place} and {shard} may have.
-fn has_brace(text: &str) -> bool {
-    text.contains('{') || text.contains('}')
 }
 
 impl Pattern<'static> {
@@ -74,46 +51,6 @@ impl Pattern<'static> {
 }
 
 impl<'a> Pattern<'a> {
-    /// The pattern that a text is.
-    pub fn parse(text: &'a str, layout: Layout) -> Result<Pattern<'a>, PatternFault> {
-        let (naming, key) = if text.contains(SHARD) {
-            (Naming::ByShard, SHARD)
-        } else {
-            (Naming::ByPlace, PLACE)
-        };
-        let Some((head, tail)) = text.split_once(STRIPE) else {
-            return Err(PatternFault::NotOnce);
-        };
-        let (before, between, after, is_stripe_first) = match head.split_once(key) {
-            Some((before, between)) => (before, between, tail, false),
-            None => match tail.split_once(key) {
-                Some((between, after)) => (head, between, after, true),
-                None => return Err(PatternFault::NotOnce),
-            },
-        };
-        if has_brace(before) || has_brace(between) || has_brace(after) {
-            return Err(PatternFault::NotOnce);
-        }
-        if text.starts_with('/')
-            || text.contains("//")
-            || text.contains("..")
-            || text.ends_with('/')
-        {
-            return Err(PatternFault::NotBelow);
-        }
-        if !keeps_apart(naming, is_stripe_first, between.as_bytes()) {
-            return Err(PatternFault::Adjoining);
-        }
-        Ok(Pattern {
-            before,
-            between,
-            after,
-            is_stripe_first,
-            naming,
-            layout,
-        })
-    }
-
     /// Whether the names have the numbers of shards, so that the code has to be known to read them.
     pub fn has_shards(&self) -> bool {
         self.naming == Naming::ByShard
