@@ -135,7 +135,7 @@ def main(names):
     tried = [crates[it] for it in names or crates if edits_of(crates[it])]
     # Those with the most edits first, so that none is left alone at the end.
     tried.sort(key=lambda it: -len(edits_of(it)))
-    with concurrent.futures.ThreadPoolExecutor(max(1, build.processors() // 2)) as pool:
+    with concurrent.futures.ThreadPoolExecutor(max(1, build.processors() - 1)) as pool:
         ends = list(pool.map(try_crate, tried))
     refused, others = (sum(it) for it in zip(*ends, (0, 0)))
     print(f"refused: {refused} wrong bodies of {len(tried)} crates, each in the function that it names; not refused: {others}")

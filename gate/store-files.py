@@ -14,6 +14,7 @@ import os
 import pathlib
 import random
 import resource
+import runpy
 import shutil
 import stat
 import subprocess
@@ -27,7 +28,7 @@ ROOT = pathlib.Path(__file__).resolve().parent.parent
 from faults import Calls  # noqa: E402
 
 PROGRAM = ROOT / "crates/rebuild_store/out/rebuild_store"
-DECODER = ROOT / "gate/store-decoder.py"
+DECODED = runpy.run_path(str(ROOT / "gate/store-decoder.py"))["decoded"]
 DISKS = ["--names", "disk{shard}/{stripe}"]
 CODED = [*DISKS, "--code", "6-2-2"]
 STAGED = ".rebuild-store-new"
@@ -82,8 +83,11 @@ def are_right(store):
 
 
 def decoded(store, name, *names):
-    ended = subprocess.run([sys.executable, DECODER, store, name, *names], capture_output=True, timeout=SECONDS)
-    return ended.stdout if ended.returncode == 0 else None
+    """The bytes of a file of the store; none where it can't be read."""
+    try:
+        return DECODED(store, name, *names)
+    except (SystemExit, OSError, ValueError, LookupError):
+        return None
 
 
 def source(place, name, data):
