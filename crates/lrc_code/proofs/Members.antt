@@ -1,5 +1,6 @@
 -- Lists of as many members as the codes have data.
-use Rattle.std.proofs.Common.{◌≡◌, ◌∙◌, ℕ, suc, zero, ◌+◌, ◌<◌, ◌≤◌, List, [], ◌∷◌, ◌++◌, length, take, drop, get_or, sym, ap, subst, arith, lit<, add-zero, length-drop}
+use Rattle.std.proofs.Common.{◌≡◌, ◌∙◌, ℕ, suc, zero, ◌+◌, ◌<◌, ◌≤◌, List, [], ◌∷◌, ◌++◌, length, take, drop}
+use Rattle.std.proofs.Common.{get_or, sym, ap, subst, arith, lit<, add-zero, length-drop}
 use Rattle.std.proofs.lemmas.List.{ext_get_or, get_or-take, get_or-drop, length-take-le, take-append-drop, take_all}
 
 -- a list of six, by its members
@@ -24,7 +25,8 @@ pub six_from : (xs : List (List ℕ)) (k : ℕ) (a b c d e f : List ℕ) → k +
     → f ≡ get_or xs (k + 5) [] → take 6 (drop k xs) ≡ a ∷ b ∷ c ∷ d ∷ e ∷ f ∷ []
 six_from xs k a b c d e f long ea eb ec ed ee ef = six_members (take 6 (drop k xs)) a b c d e f
     (length-take-le 6 (drop k xs) (omega (arith, length-drop k xs)))
-    (subst (λ n. a ≡ get_or xs n []) (sym (add-zero k)) ea ∙ at 0 (lit< tt)) (eb ∙ at 1 (lit< tt)) (ec ∙ at 2 (lit< tt)) (ed ∙ at 3 (lit< tt)) (ee ∙ at 4 (lit< tt)) (ef ∙ at 5 (lit< tt))
+    (subst (λ n. a ≡ get_or xs n []) (sym (add-zero k)) ea ∙ at 0 (lit< tt)) (eb ∙ at 1 (lit< tt)) (ec ∙ at 2 (lit< tt))
+    (ed ∙ at 3 (lit< tt)) (ee ∙ at 4 (lit< tt)) (ef ∙ at 5 (lit< tt))
   where
     at : (i : ℕ) → i < 6 → get_or xs (k + i) [] ≡ get_or (take 6 (drop k xs)) i []
     at i lt = sym (get_or-take 6 (drop k xs) i [] lt ∙ get_or-drop k xs i [])

@@ -14,6 +14,7 @@ returns-clause-same c = IfOk-weaker c.to_vec.result (IsCopy c.args.source.now) (
 
 pub returns-clause-bytes : goal.returns-clause-bytes
 returns-clause-bytes c =
-    let bytes : AreBytes c.args.source.now = All-from_get_or (λ x. x < 2 ^ 8) c.args.source.now 0 (λ i lt. omega (arith, c.type_inv.source i)) in
+    let bytes : AreBytes c.args.source.now = All-from_get_or (λ x. x < 2 ^ 8) c.args.source.now 0
+    (λ i lt. omega (arith, c.type_inv.source i)) in
     IfOk-weaker c.to_vec.result (IsCopy c.args.source.now) (λ v. AreBytes v.items)
     (λ v copy. subst AreBytes (sym (copy (λ x y is. is))) bytes) c.to_vec.ensures.items_if_clones_equal

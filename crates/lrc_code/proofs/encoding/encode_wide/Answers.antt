@@ -25,7 +25,8 @@ returns c = λ len h.
     subst (λ t. IsEncoding wide len t (copies ++ parities)) (sym is)
     (encoding Wide len copies c.in_ok-px.px.items c.in_ok-py.py.items c.in_ok-p0.p0.items c.in_ok-p1.p1.items refl
     (subst (HaveLength len) is h)
-    (All-append AreBytes firsts seconds (All-from_recursion AreBytes firsts (bytes.0, (bytes.1, (bytes.2, (bytes.3, (bytes.4, (bytes.5, tt)))))))
+    (All-append AreBytes firsts seconds
+    (All-from_recursion AreBytes firsts (bytes.0, (bytes.1, (bytes.2, (bytes.3, (bytes.4, (bytes.5, tt)))))))
     (All-from_recursion AreBytes seconds
     (more_bytes.0, (more_bytes.1, (more_bytes.2, (more_bytes.3, (more_bytes.4, (more_bytes.5, tt))))))))
     (record {

@@ -18,5 +18,6 @@ loop-made-preserved g c = let was = c.loop-made.invariant in record {
   room = omega (arith, was.room, c.push_reserved.ensures.capacity);
   same = All-same (λ s. sends_on s ≡ sends_on c.args.sends.now) c.push_reserved.new.self.items
       (c.loop-made.list.items ++ c.in_ok-try_clone.field-0 ∷ []) c.push_reserved.ensures.items
-      (All-push (λ s. sends_on s ≡ sends_on c.args.sends.now) c.loop-made.list.items c.in_ok-try_clone.field-0 was.same c.in_ok-try_clone.ensures);
+      (All-push (λ s. sends_on s ≡ sends_on c.args.sends.now) c.loop-made.list.items c.in_ok-try_clone.field-0
+      was.same c.in_ok-try_clone.ensures);
 }
