@@ -1,21 +1,18 @@
 -- One worker more is joined.
-use Rattle.std.proofs.Common.{◌≡◌, ℕ, zero, suc, ◌+◌, ◌<◌, List, [], ◌∷◌, ◌++◌, length, refl, sym, ap, ◌∙◌, subst, ⊎_elim, arith}
+use Rattle.std.proofs.Common.{◌≡◌, ℕ, zero, suc, ◌+◌, List, [], ◌∷◌, ◌++◌, length, refl, sym, ap, ◌∙◌, subst, arith}
 use Rattle.std.specs.List.{AllZip}
 use Rattle.std.proofs.lemmas.List.{length_push}
 use mathlib.Core.Option.{some, some-injective}
 use lib.ListN.{get_elem?}
 use Rattle.std.specs.declared.thread.PromisedHandle.{PromisedHandle}
-use Rattle.list_members.proofs.Lists.{at_snoc_or, at_below}
+use Rattle.list_members.proofs.Lists.{at_below}
 use Rattle.farm_lanes.specs.LaneEnds.{PutView, TakeView}
 use Rattle.farm_lanes.specs.declared.gate.record.SeatRecord.{SeatRecord}
 use Rattle.std.specs.Prelude.{Option, Some, None}
 use Rattle.farm_threads.specs.declared.jobs.Job.{Job}
-use Rattle.farm_threads.specs.declared.worker.Worked.{Worked}
 use Rattle.farm_threads.specs.Replies.{Replied}
-use Rattle.farm_threads.specs.declared.worker.WorkOf.{WorkOf}
-use Rattle.farm_threads.specs.Jobs.{HasWorked}
 use Rattle.farm_threads.specs.declared.feeder.FeedOf.{FeedOf}
-use Rattle.farm_threads.specs.Threads.{WorkersJoined, FeedersJoined, AreOfGate, AreRackFeeders, feeders_of}
+use Rattle.farm_threads.specs.Threads.{FeedersJoined, AreOfGate, AreRackFeeders, feeders_of}
 use Rattle.farm_lanes.specs.GateView.{GateName, GateId}
 use Rattle.list_members.proofs.Lists.{at_map, at_front, at_back, sum_map}
 use Rattle.list_members.specs.Lists.{Each}

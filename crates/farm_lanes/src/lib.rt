@@ -17,6 +17,7 @@
 pub mod gate;
 pub mod lane;
 pub mod limits;
+mod room;
 
 pub use gate::{AlreadyClosed, Gate, GateError, GateRefusal, Right, Seat};
 pub use lane::{EndedPut, Item, Lane, LaneError, PutEnd, Settled, TakeEnd, settle};

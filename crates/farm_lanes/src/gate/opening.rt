@@ -8,6 +8,7 @@ use crate::gate::record::GateSize;
 use crate::gate::seat::{Right, Seat};
 use crate::gate::steps::{RawSeat, raw_cut};
 use crate::limits::{MOST_DRAWS, MOST_RIGHTS, MOST_SEATS};
+use crate::room::room_for;
 use atomic_table::Table;
 use std::alloc::{AllocError, Allocator, Global};
 use std::marker::Brand;
@@ -146,7 +147,7 @@ fn rooms<A: Allocator + Clone>(
 ) -> Result<(Vec<Seat, A>, Vec<Right, A>), AllocError>
     ensures { IfOk result (λ r. (r.0.items ≡ []) × (seats ≤ vec_capacity r.0) × (r.1.items ≡ []) × (rights ≤ vec_capacity r.1)) }
 {
-    let seat_room = Vec::with_capacity(alloc.clone()?, seats)?;
-    let right_room = Vec::with_capacity(alloc.clone()?, rights)?;
+    let seat_room = room_for(alloc, seats)?;
+    let right_room = room_for(alloc, rights)?;
     Ok((seat_room, right_room))
 }

@@ -12,6 +12,7 @@ use crate::lane::rule::{EndRecord, LaneRule};
 use crate::lane::steps::{LanePass, LaneReceiver, LaneSender, cut_put, cut_take, name_ends};
 use crate::lane::take_end::TakeEnd;
 use crate::limits::{MOST_CAPACITY, MOST_PUT_ENDS, MOST_TAKE_ENDS};
+use crate::room::room_for;
 use crossbeam_channel::bounded_with;
 use std::alloc::{AllocError, Allocator, Global};
 use std::marker::Brand;
@@ -92,7 +93,7 @@ impl Lane {
     }
 }
 
-/// All that may be refused comes before the first end is made.
+/// Opens the queue, whose first pass is cut for the ends.
 fn open_ends<T: Drop, A: Allocator + Clone>(
     alloc: A,
     capacity: usize,
@@ -106,25 +107,43 @@ fn open_ends<T: Drop, A: Allocator + Clone>(
         alloc.clone()?,
         capacity,
     )?;
-    let send_list = copy_sends(alloc.clone()?, &sends, putters)?;
-    let take_list = copy_takes(alloc.clone()?, &takes, takers)?;
-    let put_room = Vec::with_capacity(alloc.clone()?, putters)?;
+    make_ends(alloc, &sends, &takes, &mut pass, putters, takers)
+}
+
+/// All that may be refused comes before the first end is made.
+fn make_ends<T: Drop, A: Allocator + Clone>(
+    alloc: A,
+    sends: &LaneSender<T, A>,
+    takes: &LaneReceiver<T, A>,
+    pass: &mut LanePass<T>,
+    putters: usize,
+    takers: usize,
+) -> Result<(Vec<PutEnd<T, A>, A>, Vec<TakeEnd<T, A>, A>), AllocError>
+    requires seated { IsSeatAt (sends_on sends.now) pass.old }
+    requires first { view pass.old ≡ end_record 1 1 [] [] }
+    requires queue { receives_on takes.now ≡ sends_on sends.now }
+    requires counts { IsPutterCount putters × IsTakerCount takers }
+    ensures { IfOk result (λ r. AreNewEnds putters takers r.0.items r.1.items) }
+{
+    let send_list = copy_sends(&alloc, sends, putters)?;
+    let take_list = copy_takes(&alloc, takes, takers)?;
+    let put_room = room_for(&alloc, putters)?;
     let take_room = Vec::with_capacity(alloc, takers)?;
-    name_ends::<T, A, Brand>(&sends, &mut pass, putters + takers, putters);
-    let puts = deal_puts(&sends, &mut pass, send_list, put_room, putters, takers);
-    let takes = deal_takes(&sends, &mut pass, take_list, take_room, putters, takers);
+    name_ends::<T, A, Brand>(sends, pass, putters + takers, putters);
+    let puts = deal_puts(sends, pass, send_list, put_room, putters, takers);
+    let takes = deal_takes(sends, pass, take_list, take_room, putters, takers);
     Ok((puts, takes))
 }
 
 /// So many ends to put by, one for each putter, before any of them has a name.
 fn copy_sends<T: Drop, A: Allocator + Clone>(
-    alloc: A,
+    alloc: &A,
     sends: &LaneSender<T, A>,
     count: usize,
 ) -> Result<Vec<LaneSender<T, A>, A>, AllocError>
     ensures { IfOk result (λ v. (length v.items ≡ count) × All (λ s. sends_on s ≡ sends_on sends.now) v.items) }
 {
-    let mut list = Vec::with_capacity(alloc, count)?;
+    let mut list = room_for(alloc, count)?;
     for made in 0..count {
         let _made = made;
         list.push_reserved(sends.try_clone()?);
@@ -134,13 +153,13 @@ fn copy_sends<T: Drop, A: Allocator + Clone>(
 
 /// So many ends to take by, one for each taker, before any of them has a name.
 fn copy_takes<T: Drop, A: Allocator + Clone>(
-    alloc: A,
+    alloc: &A,
     takes: &LaneReceiver<T, A>,
     count: usize,
 ) -> Result<Vec<LaneReceiver<T, A>, A>, AllocError>
     ensures { IfOk result (λ v. (length v.items ≡ count) × All (λ r. receives_on r ≡ receives_on takes.now) v.items) }
 {
-    let mut list = Vec::with_capacity(alloc, count)?;
+    let mut list = room_for(alloc, count)?;
     for made in 0..count {
         let _made = made;
         list.push_reserved(takes.try_clone()?);

@@ -89,8 +89,8 @@ fn added<A: Allocator + Clone>(
     match others {
         None => Ok(Some(own)),
         Some(rest) => {
-            let first = Box::new(alloc.clone()?, own)?;
-            let second = Box::new(alloc.clone()?, rest)?;
+            let first = own.in_box(alloc)?;
+            let second = rest.in_box(alloc)?;
             Ok(Some(Tree::Sum(first, second)))
         }
     }

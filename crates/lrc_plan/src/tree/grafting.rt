@@ -95,7 +95,7 @@ impl<A: Allocator> Tree<A> {
         match self {
             Tree::Leaf(at) => {
                 if *at == place {
-                    copies.push(scion.copy_in(alloc.clone()?)?)?;
+                    copies.push(scion.copy_by(alloc)?)?;
                 }
                 Ok(())
             }

@@ -1,58 +1,34 @@
-use Rattle.std.proofs.Common.{◌≡◌, ◌∙◌, ℕ, List, [], ◌∷◌, ◌++◌, map, refl, sym, subst}
+use Rattle.std.proofs.Common.{◌≡◌, ◌∙◌, ℕ, List, [], ◌∷◌, ◌++◌, map, length, refl, sym, subst}
 use Rattle.std.proofs.lemmas.List.{length-map}
-use Rattle.std.proofs.lemmas.List.Elements.{All-from_recursion}
+use Rattle.std.proofs.lemmas.List.Elements.{All-from_recursion, All-append}
 use Rattle.lrc_code.specs.declared.codes.Code.TheVariants.{Wide}
 use Rattle.lrc_code.specs.Code.{AreBytes, wide}
 use Rattle.lrc_code.specs.Encoding.{HaveLength, IsParity, IsEncoding}
 use Rattle.lrc_code.specs.Reduction.{row_at}
-use Rattle.lrc_code.proofs.Members.{twelve_members}
+use Rattle.lrc_code.proofs.Members.{two_sixes}
 use Rattle.lrc_code.proofs.Encodings.{parity_rows, encoding}
 use Rattle.lrc_code.proofs.encoding.encode_wide.Goals as goal
 
 pub returns : goal.returns
 returns c = λ len h.
     let sources : List (List ℕ) = map (λ s. s.items) c.args.sources.now in
-    let copies : List (List ℕ) = c.in_ok-x0.x0.items ∷ c.in_ok-x1.x1.items ∷ c.in_ok-x2.x2.items ∷ c.in_ok-x3.x3.items ∷ c.in_ok-x4.x4.items
-    ∷ c.in_ok-x5.x5.items ∷ c.in_ok-y0.y0.items ∷ c.in_ok-y1.y1.items ∷ c.in_ok-y2.y2.items ∷ c.in_ok-y3.y3.items ∷ c.in_ok-y4.y4.items
-    ∷ c.in_ok-y5.y5.items ∷ [] in
+    let six = c.in_ok-first.first in
+    let more = c.in_ok-second.second in
+    let firsts : List (List ℕ) = six.0.items ∷ six.1.items ∷ six.2.items ∷ six.3.items ∷ six.4.items ∷ six.5.items ∷ [] in
+    let seconds : List (List ℕ) = more.0.items ∷ more.1.items ∷ more.2.items ∷ more.3.items ∷ more.4.items ∷ more.5.items ∷ [] in
+    let copies : List (List ℕ) = firsts ++ seconds in
     let parities : List (List ℕ) = c.in_ok-px.px.items ∷ c.in_ok-py.py.items ∷ c.in_ok-p0.p0.items ∷ c.in_ok-p1.p1.items ∷ [] in
-    let is : sources ≡ copies = twelve_members sources c.in_ok-x0.x0.items c.in_ok-x1.x1.items c.in_ok-x2.x2.items c.in_ok-x3.x3.items
-    c.in_ok-x4.x4.items c.in_ok-x5.x5.items c.in_ok-y0.y0.items c.in_ok-y1.y1.items c.in_ok-y2.y2.items c.in_ok-y3.y3.items
-    c.in_ok-y4.y4.items c.in_ok-y5.y5.items (length-map c.args.sources.now (λ s. s.items) ∙ c.type_inv.sources)
-    c.in_ok-x0.ensures.same c.in_ok-x1.ensures.same c.in_ok-x2.ensures.same c.in_ok-x3.ensures.same c.in_ok-x4.ensures.same
-    c.in_ok-x5.ensures.same c.in_ok-y0.ensures.same c.in_ok-y1.ensures.same c.in_ok-y2.ensures.same c.in_ok-y3.ensures.same
-    c.in_ok-y4.ensures.same c.in_ok-y5.ensures.same in
+    let long : length sources ≡ 12 = length-map c.args.sources.now (λ s. s.items) ∙ c.type_inv.sources in
+    let is : sources ≡ copies = two_sixes sources long ∙ (λ i. c.in_ok-first.ensures.same i ++ c.in_ok-second.ensures.same i) in
+    let bytes = c.in_ok-first.ensures.bytes in
+    let more_bytes = c.in_ok-second.ensures.bytes in
     subst (λ t. IsEncoding wide len t (copies ++ parities)) (sym is)
     (encoding Wide len copies c.in_ok-px.px.items c.in_ok-py.py.items c.in_ok-p0.p0.items c.in_ok-p1.p1.items refl
     (subst (HaveLength len) is h)
-    (All-from_recursion AreBytes copies (
-      c.in_ok-x0.ensures.bytes,
-      (
-        c.in_ok-x1.ensures.bytes,
-        (
-          c.in_ok-x2.ensures.bytes,
-          (
-            c.in_ok-x3.ensures.bytes,
-            (
-              c.in_ok-x4.ensures.bytes,
-              (
-                c.in_ok-x5.ensures.bytes,
-                (
-                  c.in_ok-y0.ensures.bytes,
-                  (
-                    c.in_ok-y1.ensures.bytes,
-                    (
-                      c.in_ok-y2.ensures.bytes,
-                      (c.in_ok-y3.ensures.bytes, (c.in_ok-y4.ensures.bytes, (c.in_ok-y5.ensures.bytes, tt))),
-                    ),
-                  ),
-                ),
-              ),
-            ),
-          ),
-        ),
-      ),
-    ))
+    (All-append AreBytes firsts seconds
+    (All-from_recursion AreBytes firsts (bytes.0, (bytes.1, (bytes.2, (bytes.3, (bytes.4, (bytes.5, tt)))))))
+    (All-from_recursion AreBytes seconds
+    (more_bytes.0, (more_bytes.1, (more_bytes.2, (more_bytes.3, (more_bytes.4, (more_bytes.5, tt))))))))
     (record {
       ix = subst (λ t. IsParity (row_at (parity_rows Wide) 0) t len c.in_ok-px.px.items) is (c.in_ok-px.ensures len h);
       iy = subst (λ t. IsParity (row_at (parity_rows Wide) 1) t len c.in_ok-py.py.items) is (c.in_ok-py.ensures len h);
