@@ -1,7 +1,7 @@
 //! What locks keep apart on a mount, by the kernel's table of mounts.
 ghost use Rattle.std.specs.Prelude.{◌≡◌, ◌↔◌, ◌++◌, IfOk, IsTrue, string_bytes};
-ghost use Rattle.store_names.specs.Mounts.{IsAtOrBelow, as_in_table, is_among, is_local, letter_in_table, locking_of, may_follow, of_clients};
-ghost use Rattle.store_names.specs.Mounts.{of_one_host, of_servers};
+ghost use Rattle.store_names.specs.Mounts.{IsAtOrBelow, as_in_table, is_among, is_local, letter_in_table, locking_of, may_follow};
+ghost use Rattle.store_names.specs.Mounts.{of_clients, of_one_host, of_servers};
 
 use crate::texts::after;
 use std::alloc::{AllocError, Global};

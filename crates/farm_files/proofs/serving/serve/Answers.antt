@@ -181,7 +181,8 @@ pub returns-in_err-answers-clause-input : goal.returns-in_err-answers-clause-inp
 returns-in_err-answers-clause-input g c = c.in_err-answers.ensures.same ∙ c.in_ok-lists.ensures.same
 
 pub returns-in_err-answers-clause-reads : goal.returns-in_err-answers-clause-reads
-returns-in_err-answers-clause-reads g c = fails _ _ _ _ c.in_ok-lists.ensures.calm c.in_err-answers.ensures.more c.in_err-answers.ensures.few
+returns-in_err-answers-clause-reads g c =
+    fails _ _ _ _ c.in_ok-lists.ensures.calm c.in_err-answers.ensures.more c.in_err-answers.ensures.few
 
 pub returns-in_err-files-clause-input : goal.returns-in_err-files-clause-input
 returns-in_err-files-clause-input g c = c.in_ok-answers.ensures.same ∙ c.in_ok-lists.ensures.same
@@ -193,7 +194,8 @@ pub returns-in_err-write_files-clause-input : goal.returns-in_err-write_files-cl
 returns-in_err-write_files-clause-input g c = c.in_ok-answers.ensures.same ∙ c.in_ok-lists.ensures.same
 
 pub returns-in_err-write_files-clause-reads : goal.returns-in_err-write_files-clause-reads
-returns-in_err-write_files-clause-reads g c = fails _ _ _ _ c.in_ok-lists.ensures.calm c.in_ok-answers.ensures.more c.in_ok-answers.ensures.few
+returns-in_err-write_files-clause-reads g c =
+    fails _ _ _ _ c.in_ok-lists.ensures.calm c.in_ok-answers.ensures.more c.in_ok-answers.ensures.few
 
 pub returns-clause-input : goal.returns-clause-input
 returns-clause-input g c = c.in_ok-answers.ensures.same ∙ c.in_ok-lists.ensures.same

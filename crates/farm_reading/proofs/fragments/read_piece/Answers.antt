@@ -1,5 +1,5 @@
-use Rattle.std.proofs.Common.{◌≡◌, ◌∙◌, ◌++◌, ◌∷◌, [], Bor, Vec, Global, List, ℕ, add-zero, le-add_right, le_of_eq, length, map, take, ap, refl, get_or}
-use Rattle.std.proofs.Common.{subst, sym}
+use Rattle.std.proofs.Common.{◌≡◌, ◌∙◌, ◌++◌, ◌∷◌, [], Bor, Vec, Global, List, ℕ, add-zero, le-add_right, le_of_eq, length}
+use Rattle.std.proofs.Common.{ap, get_or, map, refl, subst, sym, take}
 use Rattle.std.specs.List.{AllZip}
 use Rattle.farm_reading.specs.Pieces.{AreOrdersOf}
 use Rattle.farm_orders.specs.declared.orders.Order.{Order}
