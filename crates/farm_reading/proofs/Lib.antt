@@ -6,3 +6,4 @@ pub mod FewFeeds
 pub mod ReadRacks
 pub mod Pieces
 pub mod PieceBytes
+pub mod Failures

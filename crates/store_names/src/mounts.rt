@@ -1,7 +1,7 @@
 //! What locks keep apart on a mount, by the kernel's table of mounts.
-ghost use Rattle.std.specs.Prelude.{◌≡◌, ◌↔◌, IfOk, IsTrue, string_bytes};
-ghost use Rattle.store_names.specs.Mounts.{IsAtOrBelow, as_in_table, is_among, is_local, locking_of, may_follow, of_clients, of_one_host};
-ghost use Rattle.store_names.specs.Mounts.{of_servers};
+ghost use Rattle.std.specs.Prelude.{◌≡◌, ◌↔◌, ◌++◌, IfOk, IsTrue, string_bytes};
+ghost use Rattle.store_names.specs.Mounts.{IsAtOrBelow, as_in_table, is_among, is_local, letter_in_table, locking_of, may_follow};
+ghost use Rattle.store_names.specs.Mounts.{of_clients, of_one_host, of_servers};
 
 use crate::texts::after;
 use std::alloc::{AllocError, Global};
@@ -93,15 +93,22 @@ fn as_in_table(alloc: Global, path: &str) -> Result<String, AllocError>
 {
     let mut text = String::new(alloc);
     for letter in path.chars() {
-        match letter {
-            ' ' => text.push_str("\\040")?,
-            '\t' => text.push_str("\\011")?,
-            '\n' => text.push_str("\\012")?,
-            '\\' => text.push_str("\\134")?,
-            _ => text.push(letter)?,
-        }
+        push_as_in_table(&mut text, letter)?;
     }
     Ok(text)
+}
+
+/// Puts a letter at a text's end as the table has it.
+fn push_as_in_table(text: &mut String, letter: char) -> Result<(), AllocError>
+    ensures { IfOk result (λ _. string_bytes text.new ≡ string_bytes text.old ++ letter_in_table letter) }
+{
+    match letter {
+        ' ' => text.push_str("\\040"),
+        '\t' => text.push_str("\\011"),
+        '\n' => text.push_str("\\012"),
+        '\\' => text.push_str("\\134"),
+        _ => text.push(letter),
+    }
 }
 
 /// What a line of the table says, if it has that form.

@@ -1,8 +1,9 @@
-use Rattle.std.proofs.Common.{◌≡◌, ◌≤◌, ◌∙◌, Vec, Global, List, ℕ, Some, ap, sym, subst, arith, length, map, option_map}
+use Rattle.std.proofs.Common.{◌≡◌, ◌+◌, ◌≤◌, ◌∙◌, Vec, Global, List, ℕ, Some, ap, sym, subst, arith, length, map, option_map}
+use Rattle.farm_orders.specs.Limits.{rack_limit}
 use Rattle.farm_reading.specs.Limits.{rack_answers}
 use Rattle.std.specs.List.{AllZip, All}
 use Rattle.std.specs.Prelude.{sum_by}
-use Rattle.std.proofs.lemmas.Result.{err_from_is_err_and}
+use Rattle.std.proofs.lemmas.Result.{IfOk-from_err, err_from_is_err_and}
 use Rattle.lrc_code.specs.declared.outcomes.Outcome.{Outcome}
 use Rattle.farm_core.specs.Merge.{AreAllMergedAnswers}
 use Rattle.farm_orders.specs.declared.orders.Order.{Order}
@@ -13,7 +14,7 @@ use Rattle.farm_reading.specs.Faults.{Explains}
 use Rattle.farm_shelves.specs.Files.{Files, StopsWriting, put_all}
 use Rattle.farm_reports.specs.Named.{named}
 use Rattle.farm_reports.specs.Rows.{FitsFeeds}
-use Rattle.farm_reading.specs.Reading.{AreAllReads, Reads, all_read, orders_all}
+use Rattle.farm_reading.specs.Reading.{AreAllReads, Reads, all_failures, all_read, orders_all}
 use Rattle.farm_files.specs.Serving.{Serves, written_files}
 use Rattle.farm_files.proofs.AnsweredRacks.{requests_counted}
 use Rattle.farm_files.proofs.ServeEnds.{Answers, Requests, farm_explains, total_is, where_shown, write_leaves, written_is}
@@ -115,7 +116,7 @@ count_answers-requires-clause-racks g c =
     let count = all_zip-length FitLists c.in_ok-lists.lists.items c.in_ok-answers.field-0.answers.items
     (fit g (goal.at.count_answers-requires-clause-racks g c).After-as_slice-3) in
     let same = ap (λ (os : List Answers). length os) c.as_slice-5.ensures.value in
-    omega (arith, count, same, c.in_ok-lists.ensures.racks)
+    subst (λ (n : ℕ). n ≤ rack_limit) (sym count ∙ sym same) c.in_ok-lists.ensures.racks
 
 pub count_answers-requires-clause-few : goal.count_answers-requires-clause-few
 count_answers-requires-clause-few g c =
@@ -132,7 +133,7 @@ returns-clause-served g c =
       lists,
       reads,
       answers,
-      omega (arith, rose, c.in_ok-lists.ensures.calm),
+      rose ∙ ap (λ (n : ℕ). n + all_failures reads) c.in_ok-lists.ensures.calm,
       omega (arith, c.len.ensures),
       c.count_answers.ensures ∙ ap (sum_by (λ (a : Answers). length a.items)) c.as_slice-5.ensures.value
           ∙ total_is c.in_ok-answers.field-0.answers.items,
@@ -145,3 +146,68 @@ returns-clause-served g c =
                 (shown_files g at.After-as_slice-4 there e),
           )),
     )
+
+-- ---- the clauses that say how the input and a failure leave
+
+-- how often the device fails, where the lists are read without a failure
+fails : (old before now most : ℕ) → before ≡ old → before ≤ now → now ≤ before + most → (old ≤ now) × (now ≤ old + most)
+fails old before now most calm more few = (omega arith, omega arith)
+
+pub returns-in_err-lists-clause-served : goal.returns-in_err-lists-clause-served
+returns-in_err-lists-clause-served g c = IfOk-from_err _ _ c.from_residual.ensures.0
+
+pub returns-in_err-lists-clause-calm : goal.returns-in_err-lists-clause-calm
+returns-in_err-lists-clause-calm g c = IfOk-from_err _ _ c.from_residual.ensures.0
+
+pub returns-in_err-answers-clause-served : goal.returns-in_err-answers-clause-served
+returns-in_err-answers-clause-served g c = IfOk-from_err _ _ c.from_residual-in_err-answers.ensures.0
+
+pub returns-in_err-answers-clause-calm : goal.returns-in_err-answers-clause-calm
+returns-in_err-answers-clause-calm g c = IfOk-from_err _ _ c.from_residual-in_err-answers.ensures.0
+
+pub returns-in_err-files-clause-served : goal.returns-in_err-files-clause-served
+returns-in_err-files-clause-served g c = IfOk-from_err _ _ c.from_residual-in_err-files.ensures.0
+
+pub returns-in_err-files-clause-calm : goal.returns-in_err-files-clause-calm
+returns-in_err-files-clause-calm g c = IfOk-from_err _ _ c.from_residual-in_err-files.ensures.0
+
+pub returns-in_err-write_files-clause-served : goal.returns-in_err-write_files-clause-served
+returns-in_err-write_files-clause-served g c = IfOk-from_err _ _ c.from_residual-in_err-write_files.ensures.0
+
+pub returns-in_err-write_files-clause-calm : goal.returns-in_err-write_files-clause-calm
+returns-in_err-write_files-clause-calm g c = IfOk-from_err _ _ c.from_residual-in_err-write_files.ensures.0
+
+pub returns-in_err-answers-clause-input : goal.returns-in_err-answers-clause-input
+returns-in_err-answers-clause-input g c = c.in_err-answers.ensures.same ∙ c.in_ok-lists.ensures.same
+
+pub returns-in_err-answers-clause-reads : goal.returns-in_err-answers-clause-reads
+returns-in_err-answers-clause-reads g c =
+    fails _ _ _ _ c.in_ok-lists.ensures.calm c.in_err-answers.ensures.more c.in_err-answers.ensures.few
+
+pub returns-in_err-files-clause-input : goal.returns-in_err-files-clause-input
+returns-in_err-files-clause-input g c = c.in_ok-answers.ensures.same ∙ c.in_ok-lists.ensures.same
+
+pub returns-in_err-files-clause-reads : goal.returns-in_err-files-clause-reads
+returns-in_err-files-clause-reads g c = fails _ _ _ _ c.in_ok-lists.ensures.calm c.in_ok-answers.ensures.more c.in_ok-answers.ensures.few
+
+pub returns-in_err-write_files-clause-input : goal.returns-in_err-write_files-clause-input
+returns-in_err-write_files-clause-input g c = c.in_ok-answers.ensures.same ∙ c.in_ok-lists.ensures.same
+
+pub returns-in_err-write_files-clause-reads : goal.returns-in_err-write_files-clause-reads
+returns-in_err-write_files-clause-reads g c =
+    fails _ _ _ _ c.in_ok-lists.ensures.calm c.in_ok-answers.ensures.more c.in_ok-answers.ensures.few
+
+pub returns-clause-input : goal.returns-clause-input
+returns-clause-input g c = c.in_ok-answers.ensures.same ∙ c.in_ok-lists.ensures.same
+
+pub returns-clause-reads : goal.returns-clause-reads
+returns-clause-reads g c = fails _ _ _ _ c.in_ok-lists.ensures.calm c.in_ok-answers.ensures.more c.in_ok-answers.ensures.few
+
+pub returns-clause-why : goal.returns-clause-why
+returns-clause-why g c = tt
+
+pub returns-clause-output : goal.returns-clause-output
+returns-clause-output g c = tt
+
+pub returns-clause-failures : goal.returns-clause-failures
+returns-clause-failures g c = tt

@@ -1,9 +1,11 @@
-use Rattle.std.proofs.Common.{◌≡◌, ◌≤◌, ◌∙◌, ◌+◌, ◌++◌, ◌∷◌, [], All, Vec, Global, List, ℕ, arith, length, map, take, ap, refl, get_or}
-use Rattle.std.proofs.Common.{subst, sym}
+use Rattle.std.proofs.Common.{◌≡◌, ◌<◌, ◌≤◌, ◌∙◌, ◌+◌, ◌++◌, ◌∷◌, [], All, Vec, Global, List, ℕ, arith, length, map, take, ap, refl, get_or}
+use Rattle.std.proofs.Common.{add-zero, le-add_right, subst, sym}
+use Rattle.std.proofs.lemmas.Result.{IfOk-from_err}
 use Rattle.std.proofs.lemmas.List.{length-map, take_all, take_more}
 use Rattle.std.proofs.lemmas.List.Elements.{All-nil, All-push}
 use Rattle.std.proofs.lemmas.Simd.{map-map}
 use Rattle.farm_orders.specs.FedLists.{IsFewFeeds}
+use Rattle.farm_orders.specs.Limits.{rack_limit}
 use Rattle.farm_orders.specs.Orders.{before_close}
 use Rattle.farm_orders.specs.declared.orders.Order.{Order}
 use Rattle.farm_orders.specs.declared.orders.RackList.{RackList}
@@ -12,9 +14,13 @@ use Rattle.farm_lists.specs.Requests.{RequestRead, listed_before_close, read_of}
 use Rattle.farm_lists.specs.declared.listing.Record.{Record}
 use Rattle.farm_lists.specs.declared.requests.ReadRequest.{ReadRequest}
 use Rattle.farm_reading.specs.Reading.{AreRackReads, orders_rack, rack_failures, rack_read}
+use Rattle.farm_reading.proofs.Failures.{all_more, few_rack, no_fewer, no_fewer_then}
 use Rattle.farm_reading.proofs.FewFeeds.{few_feeds, same_few}
 use Rattle.farm_reading.proofs.Pairs.{front_images, images_more, sum_push}
 use Rattle.farm_reading.proofs.fragments.read_feeds.Goals as goal
+
+lt-add-one : (n : ℕ) → n < n + 1
+lt-add-one n = omega arith
 
 abbrev Lists : Type 0
 Lists = List (List Record)
@@ -46,8 +52,8 @@ loop-rack-init g c = (
   [],
   tt,
   refl,
-  omega arith,
-  omega arith,
+  sym (add-zero _),
+  le-add_right _ _,
   subst (λ (racks : List (Vec RackList Global)). All Few racks) (sym c.new-lists.ensures.items) (All-nil Few),
   ap (map served) c.new-lists.ensures.items,
   ap (map counts) c.new-read.ensures.items,
@@ -74,8 +80,8 @@ loop-rack-preserved g c =
       reads ++ q ∷ [],
       all_zip_push AreRackReads (take i racks) reads rack q are is,
       c.in_ok-feeds.ensures.same ∙ same,
-      omega (arith, rose, failed, sum_push rack_failures reads q),
-      omega (arith, few, c.in_ok-feeds.ensures.few),
+      all_more _ _ _ _ _ _ failed rose (sum_push rack_failures reads q),
+      few_rack _ _ _ _ _ (lt-add-one _) few c.in_ok-feeds.ensures.few,
       subst (λ (racks : List (Vec RackList Global)). All Few racks) (sym c.in_ok-push.ensures.items)
           (All-push Few c.loop-rack.lists.items c.in_ok-feeds.feeds fed
           (same_few c.in_ok-feeds.feeds.items c.feeds.result.now c.in_ok-feeds.ensures.orders c.feeds.ensures.count)),
@@ -104,13 +110,8 @@ from_checked-requires g c =
     let (reads, are, same, failed, few, fed, orders_sized, requests_sized, shown) = c.loop-rack.invariant in
     let all = ap (λ (ns : List (List ℕ)). length ns)
     (read_all c.loop-rack.lists.items c.args.racks.now c.loop-rack.rack c.loop-rack-test.false orders_sized) in
-    few_feeds c.loop-rack.lists.items (omega (
-      arith,
-      all,
-      length-map c.loop-rack.lists.items served,
-      length-map c.args.racks.now listed,
-      c.requires.count,
-    )) fed
+    few_feeds c.loop-rack.lists.items (subst (λ (n : ℕ). n ≤ rack_limit) (sym (sym (length-map c.loop-rack.lists.items served) ∙ all
+    ∙ length-map c.args.racks.now listed)) c.requires.count) fed
 
 pub returns-clause-orders : goal.returns-clause-orders
 unfolding served listed orders
@@ -119,3 +120,65 @@ returns-clause-orders g c =
     ap (map (λ (feeds : List (List Order)). map (λ (os : List Order). length (before_close os)) feeds)) c.from_checked.ensures
     ∙ map-map (λ (feeds : List (List Order)). map (λ (os : List Order). length (before_close os)) feeds) orders c.loop-rack.lists.items
     ∙ read_all c.loop-rack.lists.items c.args.racks.now c.loop-rack.rack c.loop-rack-test.false orders_sized
+
+-- ---- where memory is refused
+
+pub returns-in_err-feeds-clause-same : goal.returns-in_err-feeds-clause-same
+returns-in_err-feeds-clause-same g c = c.in_err-feeds.ensures.same ∙ c.loop-rack.invariant.2
+
+pub returns-in_err-feeds-clause-read : goal.returns-in_err-feeds-clause-read
+returns-in_err-feeds-clause-read g c = IfOk-from_err _ _ c.from_residual.ensures.0
+
+pub returns-in_err-feeds-clause-orders : goal.returns-in_err-feeds-clause-orders
+returns-in_err-feeds-clause-orders g c = IfOk-from_err _ _ c.from_residual.ensures.0
+
+pub returns-in_err-feeds-clause-counted : goal.returns-in_err-feeds-clause-counted
+returns-in_err-feeds-clause-counted g c = IfOk-from_err _ _ c.from_residual.ensures.0
+
+pub returns-in_err-feeds-clause-more : goal.returns-in_err-feeds-clause-more
+returns-in_err-feeds-clause-more g c = no_fewer_then _ _ _ _ c.loop-rack.invariant.3 c.in_err-feeds.ensures.more
+
+pub returns-in_err-push-clause-same : goal.returns-in_err-push-clause-same
+returns-in_err-push-clause-same g c = c.in_ok-feeds.ensures.same ∙ c.loop-rack.invariant.2
+
+pub returns-in_err-push-clause-read : goal.returns-in_err-push-clause-read
+returns-in_err-push-clause-read g c = IfOk-from_err _ _ c.from_residual-in_err-push.ensures.0
+
+pub returns-in_err-push-clause-orders : goal.returns-in_err-push-clause-orders
+returns-in_err-push-clause-orders g c = IfOk-from_err _ _ c.from_residual-in_err-push.ensures.0
+
+pub returns-in_err-push-clause-counted : goal.returns-in_err-push-clause-counted
+returns-in_err-push-clause-counted g c = IfOk-from_err _ _ c.from_residual-in_err-push.ensures.0
+
+pub returns-in_err-push-clause-more : goal.returns-in_err-push-clause-more
+returns-in_err-push-clause-more g c = no_fewer_then _ _ _ _ c.loop-rack.invariant.3 c.in_ok-feeds.ensures.more
+
+pub returns-in_err-push-2-clause-same : goal.returns-in_err-push-2-clause-same
+returns-in_err-push-2-clause-same g c = c.in_ok-feeds.ensures.same ∙ c.loop-rack.invariant.2
+
+pub returns-in_err-push-2-clause-read : goal.returns-in_err-push-2-clause-read
+returns-in_err-push-2-clause-read g c = IfOk-from_err _ _ c.from_residual-in_err-push-2.ensures.0
+
+pub returns-in_err-push-2-clause-orders : goal.returns-in_err-push-2-clause-orders
+returns-in_err-push-2-clause-orders g c = IfOk-from_err _ _ c.from_residual-in_err-push-2.ensures.0
+
+pub returns-in_err-push-2-clause-counted : goal.returns-in_err-push-2-clause-counted
+returns-in_err-push-2-clause-counted g c = IfOk-from_err _ _ c.from_residual-in_err-push-2.ensures.0
+
+pub returns-in_err-push-2-clause-more : goal.returns-in_err-push-2-clause-more
+returns-in_err-push-2-clause-more g c = no_fewer_then _ _ _ _ c.loop-rack.invariant.3 c.in_ok-feeds.ensures.more
+
+pub returns-in_err-feeds-clause-few : goal.returns-in_err-feeds-clause-few
+returns-in_err-feeds-clause-few g c = few_rack _ _ _ _ _ c.loop-rack-test.true c.loop-rack.invariant.4 c.in_err-feeds.ensures.few
+
+pub returns-in_err-push-clause-few : goal.returns-in_err-push-clause-few
+returns-in_err-push-clause-few g c = few_rack _ _ _ _ _ c.loop-rack-test.true c.loop-rack.invariant.4 c.in_ok-feeds.ensures.few
+
+pub returns-in_err-push-2-clause-few : goal.returns-in_err-push-2-clause-few
+returns-in_err-push-2-clause-few g c = few_rack _ _ _ _ _ c.loop-rack-test.true c.loop-rack.invariant.4 c.in_ok-feeds.ensures.few
+
+pub returns-clause-same : goal.returns-clause-same
+returns-clause-same g c = c.loop-rack.invariant.2
+
+pub returns-clause-more : goal.returns-clause-more
+returns-clause-more g c = no_fewer _ _ _ c.loop-rack.invariant.3
