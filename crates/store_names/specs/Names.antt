@@ -29,11 +29,12 @@ name_with p stripe key =
     p.before.now ++ (if p.is_stripe_first then stripe else key) ++ p.between.now ++ (if p.is_stripe_first then key else stripe)
     ++ p.after.now
 
--- how a pattern is written: its name of `{stripe}`, for the place that is written `{place}`, or `{shard}` where it has a number
+-- what stands for the place in a pattern's text: `{place}`, or `{shard}` where it has a number
 abbrev pub written_key : Naming → List ℕ
 written_key ByPlace = codes "{place}"
 written_key ByShard = codes "{shard}"
 
+-- a pattern's text: its name of `{stripe}` for the place that is written so
 abbrev pub text_of : Pattern → List ℕ
 text_of p = name_with p (codes "{stripe}") (written_key p.naming)
 
