@@ -1,6 +1,7 @@
 #!/usr/bin/env python3
 """Edits that must not compile, which the gate takes none of: the first line of each crate's no-compile/*.edit names the compiler's error,
-and it is then in the form of a wrong body. Each is made in a copy of its crate, with its tests, over the crates below as they were proved here.
+and the edit is then in the form of a wrong body. Each is made in a copy of its crate, with its tests, over the crates below as they were
+proved here.
 
     no-compile.py
 
