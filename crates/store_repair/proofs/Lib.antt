@@ -9,7 +9,9 @@ pub mod CheckLemmas
 pub mod OpenedLemmas
 pub mod KeptLemmas
 pub mod NamedLemmas
+pub mod NotedLemmas
 pub mod RepairLemmas
+pub mod MadeLemmas
 pub mod PutLemmas
 pub mod WholeLemmas
 pub mod ShownLemmas

@@ -18,7 +18,7 @@ use std::fmt::{self, Display, Formatter, Write};
 use stores::{Fragment, nth_place};
 
 /// Where survivors of a stripe are damaged, as far as that can be told.
-#[derive(Clone, Copy, Debug, PartialEq, Eq)]
+#[derive(Clone, Copy)]
 pub enum Damage {
     /// The survivors belong together.
     Nowhere,
@@ -31,7 +31,7 @@ pub enum Damage {
 }
 
 /// Survivors of a stripe that contradict each other, where damage of one of them would explain it.
-#[derive(Clone, Copy, Debug, PartialEq, Eq)]
+#[derive(Clone, Copy)]
 pub struct Suspects {
     /// The places at which stripes of the code differ from the survivors that differ from them in at most two places. No clause says that
     /// at each of these places one does.

@@ -4,13 +4,13 @@ use lrc_code::PlaceSet;
 use std::fmt::{self, Display, Formatter, Write};
 
 /// The lengths of a stripe's files, each listed once.
-#[derive(Debug, Drop)]
+#[derive(Drop)]
 pub struct Lengths {
     pub groups: Vec<LengthGroup>,
 }
 
 /// The files of a length.
-#[derive(Clone, Copy, Debug, PartialEq, Eq)]
+#[derive(Clone, Copy)]
 pub struct LengthGroup {
     /// How many bytes each has.
     pub length: u64,

@@ -14,7 +14,7 @@ use std::alloc::{AllocError, Global};
 use stores::{Found, Store, Stripe, StripeFiles, is_in_common, nth_place};
 
 /// How many bytes each fragment of a stripe has.
-#[derive(Debug, Drop)]
+#[derive(Drop)]
 pub enum StripeLength {
     /// There is no file at the code's places, or memory can't be as long as those that are there.
     NoFiles,

@@ -18,7 +18,7 @@ use std::alloc::{AllocError, Global};
 use stores::nth_place;
 
 /// The places of a code that don't survive, in the order of their indexes.
-#[derive(Debug, Drop)]
+#[derive(Drop)]
 pub struct LostPlaces {
     /// Those whose fragments the survivors determine, unless the survivors contradict each other.
     pub determined: Vec<Place>,

@@ -18,7 +18,7 @@ use crate::damage::{Damage, Suspects, find_damaged};
 use crate::losses::{are_checked, lost_places};
 use crate::mending::{MendFault, Survivors, mend};
 use crate::opening::{Opened, leave_out};
-use crate::outcomes::{Finding, Reason, note, read_fault, write_fault};
+use crate::outcomes::{Finding, Reason, note, note_unread, note_unwritten};
 use crate::settings::{Reads, Repair};
 use lrc_code::{Place, PlaceSet};
 use std::alloc::{AllocError, Global};
@@ -127,12 +127,17 @@ pub(crate) fn make_from<S: Store>(
     };
     let among = to_be_rebuilt(repair, stripe, opened);
     let lost = lost_places(alloc, code, opened.set, among)?;
-    let places = lost.determined;
-    let Some(files) = new_files(alloc, store, stripe, places.as_slice(), findings)? else {
+    let files = new_files(alloc, store, stripe, lost.determined.as_slice(), findings)?;
+    let Some(files) = files else {
         return Ok(Attempt::GivenUp);
     };
     let mut files = files;
-    match mend(alloc, &survivors, places.as_slice(), files.as_mut_slice()) {
+    match mend(
+        alloc,
+        &survivors,
+        lost.determined.as_slice(),
+        files.as_mut_slice(),
+    ) {
         Ok(true) => {
             note_all(lost.several.as_slice(), findings)?;
             let set = opened.set;
@@ -140,7 +145,7 @@ pub(crate) fn make_from<S: Store>(
             Ok(Attempt::Made(Made {
                 set,
                 is_checked,
-                places,
+                places: lost.determined,
                 files,
             }))
         }
@@ -150,7 +155,7 @@ pub(crate) fn make_from<S: Store>(
         }
         Err(fault) => {
             discard_all(store, files, findings)?;
-            after_fault(fault, places.as_slice(), findings)
+            after_fault(fault, lost.determined.as_slice(), findings)
         }
     }
 }
@@ -202,7 +207,7 @@ fn new_files<S: Store>(
         match store.create(stripe.name, place) {
             Ok(file) => files.push(file)?,
             Err(error) => {
-                note(findings, Some(place), write_fault(error)?)?;
+                note_unwritten(findings, Some(place), error)?;
                 discard_all(store, files, findings)?;
                 return Ok(None);
             }
@@ -242,7 +247,7 @@ pub(crate) fn discard<S: Store>(
 {
     match store.discard(file) {
         Ok(()) => Ok(()),
-        Err(error) => note(findings, None, write_fault(error)?),
+        Err(error) => note_unwritten(findings, None, error),
     }
 }
 
@@ -313,7 +318,7 @@ fn after_fault<N>(
         }
         MendFault::Unread { index, error } => {
             let place = Place::from_index(index);
-            note(findings, place, read_fault(error)?)?;
+            note_unread(findings, place, error)?;
             match place {
                 Some(place) => Ok(Attempt::LeaveOut {
                     place,
@@ -323,7 +328,7 @@ fn after_fault<N>(
             }
         }
         MendFault::Unwritten { index, error } => {
-            note(findings, places.get(index).copied(), write_fault(error)?)?;
+            note_unwritten(findings, places.get(index).copied(), error)?;
             Ok(Attempt::GivenUp)
         }
     }

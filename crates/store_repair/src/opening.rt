@@ -9,7 +9,7 @@ ghost use Rattle.store_repair.specs.Opened.{AreOpened, IsOpenedAt};
 ghost use Rattle.store_repair.specs.Scrubbed.{said_damaged};
 
 use crate::damage::without;
-use crate::outcomes::{Finding, note, read_fault};
+use crate::outcomes::{Finding, note_unread};
 use lrc_code::{Code, Place, PlaceSet};
 use std::alloc::{AllocError, Global};
 use stores::{Refused, Store, Stripe, nth_place};
@@ -44,7 +44,7 @@ pub fn open_survivors<S: Store>(
     let mut refused = store.refused(alloc, stripe.name, length, opened.fragments.as_slice())?;
     refused.reverse();
     'refused: while let Some(Refused { place, error }) = refused.pop() {
-        note(findings, Some(place), read_fault(error)?)?;
+        note_unread(findings, Some(place), error)?;
         leave_out(code, &mut opened, place);
     }
     Ok(opened)
@@ -114,7 +114,7 @@ fn open_at<S: Store>(
     match store.open(stripe.name, place, length) {
         Ok(fragment) => Ok(Some(fragment)),
         Err(error) => {
-            note(findings, Some(place), read_fault(error)?)?;
+            note_unread(findings, Some(place), error)?;
             Ok(None)
         }
     }

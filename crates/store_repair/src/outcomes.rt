@@ -11,68 +11,63 @@ use crate::damage::Suspects;
 use crate::length_groups::Lengths;
 use lrc_code::{Code, Place, PlaceSet};
 use std::alloc::{AllocError, Global};
+use std::fmt::{self, Display, Formatter, Write};
 use std::io::{self, ErrorKind};
 use stores::{Found, NameFault, Stripe};
-use thiserror::Error;
 
 /// Why a fragment, or a stripe, isn't as it should be.
-#[derive(Debug, Drop, Error)]
+#[derive(Drop)]
 pub enum Reason {
-    #[error("is lost")]
     Absent,
-    #[error("has another length than the other fragments of the stripe")]
     OtherLength,
-    #[error("is a link to nothing")]
     Dangling,
-    #[error("is no regular file")]
     NoFile,
-    #[error("can't be looked at: {0}")]
     Unknown(io::Error),
     /// Of a stripe: none of its fragments can be read.
-    #[error("no fragment can be read")]
     NoSurvivor,
     /// Of a stripe: its files have several lengths, and checks confirm none of these, or more than one, or one that isn't the greatest.
-    #[error("its fragments have different lengths, and no check says which is right: {0}")]
     LengthsDiffer(Lengths),
     /// The survivors don't determine the fragment.
-    #[error("can't be rebuilt: the fragments that survive don't determine it")]
     Several,
     /// Without the fragment the others belong together, and each stripe of the code that differs from the survivors in at most two places
     /// differs at it.
-    #[error("is damaged: only without it the others belong together")]
     Damaged,
     /// Without the fragment the others belong together, and without no other; two others that are damaged may make it look so. It was taken
     /// for the damaged one since the repair was to assume that only one is.
-    #[error("is taken for the damaged one, which is a guess: only without it the others belong together")]
     TakenForDamaged,
     /// Of a stripe: its survivors don't belong together, and at least one of the suspects is damaged.
-    #[error("contradiction: one of these is damaged: {0}")]
     Suspected(Suspects),
     /// Of a stripe: its survivors don't belong together, and no single one of them explains it.
-    #[error("contradiction, and which fragment is damaged can't be told")]
     Contradiction,
     /// The fragment doesn't have the bytes that the store's checksums say.
-    #[error("differs from the checksums")]
     Differs,
     /// The rebuilt fragment doesn't have the bytes that the store's checksums say, so it isn't put in its place.
-    #[error("was rebuilt, and what was rebuilt differs from the checksums")]
     RebuiltDiffers,
     /// The fragment was written to since it was opened, so what was read of it may be of two states.
-    #[error("changed meanwhile: nothing of its stripe is put in its place")]
     Changed,
-    #[error("can't be read: {0}")]
     Unread(io::Error),
-    #[error("can't be put in its place: {0}")]
     Unwritten(io::Error),
-    #[error("isn't replaced: no check covers what would be put in its place")]
     NoCheck,
     /// Of a stripe: a file was left over, or names are not known to be on the disk.
-    #[error("was left over, or isn't known to be on the disk: {0}")]
     Unsettled(NameFault),
-    #[error("has come meanwhile, and stays as it is")]
     CameMeanwhile,
-    #[error("isn't replaced: a fragment that was replaced before is kept beside it")]
     KeptThere,
+}
+
+impl Display for Reason {
+    fn fmt<W: Write>(&self, f: &mut Formatter<W>) -> fmt::Result {
+        f.write_str(self.text())?;
+        match self {
+            Reason::Unknown(error) | Reason::Unread(error) | Reason::Unwritten(error) => write!(
+                f,
+                ": {error}"
+            ),
+            Reason::LengthsDiffer(lengths) => write!(f, ": {lengths}"),
+            Reason::Suspected(suspects) => write!(f, ": {suspects}"),
+            Reason::Unsettled(fault) => write!(f, ": {fault}"),
+            _ => Ok(()),
+        }
+    }
 }
 
 impl Reason {
@@ -86,6 +81,37 @@ impl Reason {
             Found::Dangling => Reason::Dangling,
             Found::Other => Reason::NoFile,
             Found::Unknown { code } => Reason::Unknown(io::Error::from_raw_os_error(code)),
+        }
+    }
+
+    /// What is said of it; where it has more to tell, a colon and that follow.
+    fn text(&self) -> &'static str {
+        match self {
+            Reason::Absent => "is lost",
+            Reason::OtherLength => "has another length than the other fragments of the stripe",
+            Reason::Dangling => "is a link to nothing",
+            Reason::NoFile => "is no regular file",
+            Reason::Unknown(_) => "can't be looked at",
+            Reason::NoSurvivor => "no fragment can be read",
+            Reason::LengthsDiffer(_) =>
+                "its fragments have different lengths, and no check says which is right",
+            Reason::Several => "can't be rebuilt: the fragments that survive don't determine it",
+            Reason::Damaged => "is damaged: only without it the others belong together",
+            Reason::TakenForDamaged =>
+                "is taken for the damaged one, which is a guess: only without it the others belong together",
+            Reason::Suspected(_) => "contradiction: one of these is damaged",
+            Reason::Contradiction => "contradiction, and which fragment is damaged can't be told",
+            Reason::Differs => "differs from the checksums",
+            Reason::RebuiltDiffers =>
+                "was rebuilt, and what was rebuilt differs from the checksums",
+            Reason::Changed => "changed meanwhile: nothing of its stripe is put in its place",
+            Reason::Unread(_) => "can't be read",
+            Reason::Unwritten(_) => "can't be put in its place",
+            Reason::NoCheck => "isn't replaced: no check covers what would be put in its place",
+            Reason::Unsettled(_) => "was left over, or isn't known to be on the disk",
+            Reason::CameMeanwhile => "has come meanwhile, and stays as it is",
+            Reason::KeptThere =>
+                "isn't replaced: a fragment that was replaced before is kept beside it",
         }
     }
 
@@ -110,14 +136,14 @@ impl Reason {
 }
 
 /// What isn't as it should be: the fragment at a place, or the stripe.
-#[derive(Debug, Drop)]
+#[derive(Drop)]
 pub struct Finding {
     pub place: Option<Place>,
     pub reason: Reason,
 }
 
 /// What became of a stripe.
-#[derive(Debug, Drop)]
+#[derive(Drop)]
 pub struct StripeOutcome {
     /// How many bytes each fragment of the stripe has.
     pub length: usize,
@@ -296,9 +322,34 @@ pub(crate) fn note_unknown(
     Ok(())
 }
 
+/// Notes why the fragment at a place, or something of the stripe, can't be read.
+pub(crate) fn note_unread(
+    findings: &mut Vec<Finding>,
+    place: Option<Place>,
+    error: io::Error,
+) -> Result<(), AllocError>
+    ensures said { OnOk result (said_damaged findings.new.items ≡ said_damaged findings.old.items) }
+    ensures named { OnOk result (named findings.new.items ≡ named findings.old.items ++ named_by place) }
+    ensures some { OnOk result (findings.new.items ≢ []) }
+{
+    note(findings, place, read_fault(error)?)
+}
+
+/// Notes why the fragment at a place, or something of the stripe, can't be written.
+pub(crate) fn note_unwritten(
+    findings: &mut Vec<Finding>,
+    place: Option<Place>,
+    error: io::Error,
+) -> Result<(), AllocError>
+    ensures named { OnOk result (named findings.new.items ≡ named findings.old.items ++ named_by place) }
+    ensures some { OnOk result (findings.new.items ≢ []) }
+{
+    note(findings, place, write_fault(error)?)
+}
+
 /// Why a fragment can't be read. An error of the kind `InvalidData` says that it differs from the store's checksums, and one of the kind
 /// `ResourceBusy` that it was changed since it was opened.
-pub(crate) fn read_fault(error: io::Error) -> Result<Reason, AllocError>
+fn read_fault(error: io::Error) -> Result<Reason, AllocError>
     ensures { IfOk result (λ reason. (place : Option Place) → damaged_by reason place ≡ []) }
 {
     match error.kind() {
@@ -310,7 +361,7 @@ pub(crate) fn read_fault(error: io::Error) -> Result<Reason, AllocError>
 }
 
 /// Why a fragment can't be written. An error of the kind `InvalidData` says that it differs from the store's checksums.
-pub(crate) fn write_fault(error: io::Error) -> Result<Reason, AllocError> {
+fn write_fault(error: io::Error) -> Result<Reason, AllocError> {
     match error.kind() {
         ErrorKind::OutOfMemory => Err(AllocError),
         ErrorKind::InvalidData => Ok(Reason::RebuiltDiffers),

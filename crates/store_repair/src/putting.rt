@@ -15,7 +15,7 @@ ghost use Rattle.stores.specs.declared.store.Placed.TheVariants as placed;
 use crate::coverage::is_covered;
 use crate::making::{Made, discard};
 use crate::outcomes::{
-    Finding, Reason, is_named, is_said_damaged, is_said_to_differ, note, write_fault,
+    Finding, Reason, is_named, is_said_damaged, is_said_to_differ, note, note_unwritten,
 };
 use crate::settings::Repair;
 use lrc_code::{Place, PlaceSet};
@@ -215,7 +215,7 @@ fn note_placed(
             Ok(false)
         }
         Err(error) => {
-            note(findings, Some(place), write_fault(error)?)?;
+            note_unwritten(findings, Some(place), error)?;
             Ok(false)
         }
     }

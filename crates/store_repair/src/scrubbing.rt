@@ -14,7 +14,7 @@ use crate::lengths::length_or_note;
 use crate::losses::have_checks;
 use crate::mending::{MendFault, Survivors};
 use crate::opening::open_survivors;
-use crate::outcomes::{Finding, Reason, StripeOutcome, note, read_fault};
+use crate::outcomes::{Finding, Reason, StripeOutcome, note, note_unread};
 use lrc_code::{Code, Place};
 use std::alloc::{AllocError, Global};
 use stores::{Fragment, Store, Stripe};
@@ -120,9 +120,9 @@ fn note_fault(fault: MendFault, findings: &mut Vec<Finding>) -> Result<(), Alloc
     match fault {
         MendFault::OutOfMemory => Err(AllocError),
         MendFault::Unread { index, error } => {
-            note(findings, Place::from_index(index), read_fault(error)?)
+            note_unread(findings, Place::from_index(index), error)
         }
         MendFault::Several { .. } => note(findings, None, Reason::Several),
-        MendFault::Unwritten { error, .. } => note(findings, None, read_fault(error)?),
+        MendFault::Unwritten { error, .. } => note_unread(findings, None, error),
     }
 }

@@ -10,6 +10,7 @@ use Rattle.store_repair.specs.Losses.{AreChecked}
 use Rattle.store_repair.specs.Opened.{AreOpened}
 use Rattle.store_repair.specs.Repaired.{IfMade, IfNotMade, IsAccountedFor}
 use Rattle.store_repair.proofs.RepairLemmas.{opened_less}
+use Rattle.std.proofs.lemmas.Result.{IfOk-from_err}
 use Rattle.store_repair.proofs.making.make.Goals as goal
 
 pub attempts-preserved : goal.attempts-preserved
@@ -54,3 +55,23 @@ returns-in-Made-clause-all g c = λ reads p has out.
 
 pub returns-clause-said : goal.returns-clause-said
 returns-clause-said g c = c.attempts.invariant.said (let end = c.attempts-test.false in omega (arith, end))
+
+pub returns-in_err-made-clause-kept : goal.returns-in_err-made-clause-kept
+returns-in_err-made-clause-kept g c = λ given from before.
+    c.in_err-made.ensures.kept given from (c.attempts.invariant.kept given from before)
+
+pub returns-in_err-made-clause-made : goal.returns-in_err-made-clause-made
+returns-in_err-made-clause-made g c = IfOk-from_err c.from_residual.result _ c.from_residual.ensures.0
+
+pub returns-in_err-made-clause-checked : goal.returns-in_err-made-clause-checked
+returns-in_err-made-clause-checked g c = IfOk-from_err c.from_residual.result _ c.from_residual.ensures.0
+
+pub returns-in_err-made-clause-all : goal.returns-in_err-made-clause-all
+returns-in_err-made-clause-all g c = λ _. IfOk-from_err c.from_residual.result _ c.from_residual.ensures.0
+
+pub returns-in_err-made-clause-said : goal.returns-in_err-made-clause-said
+returns-in_err-made-clause-said g c = IfOk-from_err c.from_residual.result _ c.from_residual.ensures.0
+
+pub returns-in-GivenUp-clause-kept : goal.returns-in-GivenUp-clause-kept
+returns-in-GivenUp-clause-kept g c = λ given from before.
+    c.in_ok-made.ensures.kept given from (c.attempts.invariant.kept given from before)

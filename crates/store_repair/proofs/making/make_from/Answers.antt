@@ -5,13 +5,15 @@ use Rattle.store_repair.specs.Findings.{named}
 use Rattle.lrc_code.specs.declared.places.Place.{Place}
 use Rattle.std.proofs.lemmas.List.{with_items_is, places}
 use Rattle.lrc_code.specs.Sets.{is_in}
-use Rattle.store_repair.specs.Mended.{IsMendedStripe}
+use Rattle.store_repair.specs.Mended.{AreLost, IsMendedStripe}
 use Rattle.stores.specs.Shown.{AreShown}
 use Rattle.store_repair.proofs.RepairLemmas.{are_made}
+use Rattle.std.proofs.lemmas.Result.{IfOk-weaker}
+use Rattle.store_repair.proofs.MadeLemmas.{none_made, not_made}
 use Rattle.store_repair.proofs.making.make_from.Goals as goal
 
-pub returns-in-Ok-true-clause-made : goal.returns-in-Ok-true-clause-made
-returns-in-Ok-true-clause-made g c =
+pub returns-in_ok-note_all-in-Ok-true-clause-made : goal.returns-in_ok-note_all-in-Ok-true-clause-made
+returns-in_ok-note_all-in-Ok-true-clause-made g c =
     let opened = c.args.opened.now in
     let code = c.args.repair.now.code in
     let stripe = c.args.stripe.now.name.now in
@@ -33,8 +35,8 @@ returns-in-Ok-true-clause-made g c =
     (c.in-Ok-true.ensures.mended xs
     (subst (λ fs. AreShown g.S.Survivor.Fragment.shown fs xs) (sym c.as_slice.ensures.value) are) whole))))
 
-pub returns-in-Ok-true-clause-all : goal.returns-in-Ok-true-clause-all
-returns-in-Ok-true-clause-all g c = λ reads p has out.
+pub returns-in_ok-note_all-in-Ok-true-clause-all : goal.returns-in_ok-note_all-in-Ok-true-clause-all
+returns-in_ok-note_all-in-Ok-true-clause-all g c = λ reads p has out.
     let lost = c.in_ok-lost.lost in
     let new = named c.note_all.new.findings.items in
     let own : is_in c.to_be_rebuilt-among.result p ≡ true = rw (c.to_be_rebuilt-among.ensures.all reads p, has, out) refl in
@@ -44,3 +46,39 @@ returns-in-Ok-true-clause-all g c = λ reads p has out.
       | inr is ↦ inr (All-contains (Contains new) lost.several.items p
           (subst (All (Contains new)) c.as_slice-in-Ok-true.ensures.value c.in_ok-note_all-in-Ok-true.ensures) is)
     ]
+
+pub mend-requires-clause-lost : goal.mend-requires-clause-lost
+mend-requires-clause-lost g c = subst (AreLost c.args.repair.now.code (is_in c.args.opened.now.set)) (sym c.as_slice-3.ensures.value)
+    c.in_ok-lost.ensures.determined
+
+pub returns-in_ok-discard_all-in-Ok-false-clause-made : goal.returns-in_ok-discard_all-in-Ok-false-clause-made
+returns-in_ok-discard_all-in-Ok-false-clause-made g c =
+    IfOk-weaker c.after_contradiction.result _ _ (none_made _) c.after_contradiction.ensures.not_made
+
+pub returns-in_ok-discard_all-in-Ok-false-clause-checked : goal.returns-in_ok-discard_all-in-Ok-false-clause-checked
+returns-in_ok-discard_all-in-Ok-false-clause-checked g c =
+    IfOk-weaker c.after_contradiction.result _ _ (none_made _) c.after_contradiction.ensures.not_made
+
+pub returns-in_ok-discard_all-in-Ok-false-clause-all : goal.returns-in_ok-discard_all-in-Ok-false-clause-all
+returns-in_ok-discard_all-in-Ok-false-clause-all g c = λ _.
+    IfOk-weaker c.after_contradiction.result _ _ (none_made _) c.after_contradiction.ensures.not_made
+
+pub returns-in_ok-discard_all-in-Ok-false-clause-said : goal.returns-in_ok-discard_all-in-Ok-false-clause-said
+returns-in_ok-discard_all-in-Ok-false-clause-said g c =
+    IfOk-weaker c.after_contradiction.result _ _ (not_made _) c.after_contradiction.ensures.said
+
+pub returns-in_ok-discard_all-in-Err-clause-made : goal.returns-in_ok-discard_all-in-Err-clause-made
+returns-in_ok-discard_all-in-Err-clause-made g c =
+    IfOk-weaker c.after_fault.result _ _ (none_made _) c.after_fault.ensures.not_made
+
+pub returns-in_ok-discard_all-in-Err-clause-checked : goal.returns-in_ok-discard_all-in-Err-clause-checked
+returns-in_ok-discard_all-in-Err-clause-checked g c =
+    IfOk-weaker c.after_fault.result _ _ (none_made _) c.after_fault.ensures.not_made
+
+pub returns-in_ok-discard_all-in-Err-clause-all : goal.returns-in_ok-discard_all-in-Err-clause-all
+returns-in_ok-discard_all-in-Err-clause-all g c = λ _.
+    IfOk-weaker c.after_fault.result _ _ (none_made _) c.after_fault.ensures.not_made
+
+pub returns-in_ok-discard_all-in-Err-clause-said : goal.returns-in_ok-discard_all-in-Err-clause-said
+returns-in_ok-discard_all-in-Err-clause-said g c =
+    IfOk-weaker c.after_fault.result _ _ (not_made _) c.after_fault.ensures.said

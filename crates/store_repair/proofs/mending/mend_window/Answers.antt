@@ -2,7 +2,8 @@ use Rattle.std.proofs.Common.{◌≡◌, ◌∙◌, ap, length, map, subst, sym,
 use Rattle.std.proofs.lemmas.Bool.{both_ways}
 use Rattle.std.proofs.lemmas.List.{take_at}
 use Rattle.lrc_plan.specs.Stripes.{AreZeroRows}
-use Rattle.store_repair.specs.Windows.{AreAppended}
+use Rattle.store_repair.specs.Windows.{AreAppended, HaveOrNone}
+use Rattle.store_repair.proofs.NotedLemmas.{as_long}
 use Rattle.store_repair.proofs.mending.mend_window.Goals as goal
 
 pub returns-then-not-are_zero-clause-window : goal.returns-then-not-are_zero-clause-window
@@ -30,3 +31,26 @@ returns-clause-window g c = λ at are.
           (subst (λ n. appended fourth n c.as_slice-3.result.now c.args.files.now c.append_sums.new.files)
           size c.in_default-append_sums.ensures)),
     )
+
+pub returns-in-Err-clause-rooms : goal.returns-in-Err-clause-rooms
+returns-in-Err-clause-rooms g c = as_long _ _ _ (omega arith)
+
+pub returns-in-Err-append_sums-clause-sums : goal.returns-in-Err-append_sums-clause-sums
+returns-in-Err-append_sums-clause-sums g c = as_long _ _ _ (omega arith)
+
+pub returns-clause-sums : goal.returns-clause-sums
+returns-clause-sums g c = as_long _ _ _ (omega arith)
+
+pub are_zero-requires : goal.are_zero-requires
+are_zero-requires g c =
+    let same = ap (map (λ s. s.now)) c.as_slice-2.ensures.value ∙ c.in_ok-slices.ensures
+    ∙ ap (map (λ room. room.items)) (c.as_slice.ensures.value ∙ take_at c.read_window.new.rooms _ _ (omega arith)) in
+    subst (HaveOrNone c.args.window.size) (sym same) c.in_default.ensures.sizes
+
+pub append_sums-requires-clause-sizes : goal.append_sums-requires-clause-sizes
+append_sums-requires-clause-sizes g c =
+    let same = ap (map (λ s. s.now)) c.as_slice-4.ensures.value ∙ c.in_ok-slices.ensures
+    ∙ ap (map (λ room. room.items)) (c.as_slice.ensures.value ∙ take_at c.read_window.new.rooms _ _ (omega arith)) in
+    let size : c.args.window.size ≡ length c.slice_mut-sums.result.now = omega arith in
+    subst (HaveOrNone (length c.slice_mut-sums.result.now)) (sym same)
+    (subst (λ n. HaveOrNone n (map (λ room. room.items) c.read_window.new.rooms)) size c.in_default.ensures.sizes)

@@ -3,6 +3,7 @@ use Rattle.std.proofs.lemmas.Bool.{cases_lt}
 use Rattle.std.proofs.lemmas.List.{get_or_append_left, get_or_default, get_or_push, length_push}
 use Rattle.lrc_code.specs.Codes.{tables_of}
 use Rattle.lrc_code.specs.Sets.{is_in}
+use Rattle.lrc_plan.specs.Planned.{ExtensionsDiffer}
 use Rattle.lrc_plan.specs.RowPlans.{IsValueRow}
 use Rattle.store_repair.proofs.mending.plan_of.Goals as goal
 
@@ -29,3 +30,10 @@ loop-index-preserved c =
 
 pub returns-clause-rows : goal.returns-clause-rows
 returns-clause-rows c = λ k d e lt. c.loop-index.invariant.rows k d e (omega (arith, lt))
+
+pub returns-in_default-clause-refused : goal.returns-in_default-clause-refused
+returns-in_default-clause-refused c = (
+  c.loop-index-test.true,
+  λ d. subst (ExtensionsDiffer (tables_of c.args.code) (is_in c.args.survivors))
+      (get_or_default c.args.places.now c.loop-index.index _ d c.loop-index-test.true) c.in_default.ensures.value,
+)

@@ -1,10 +1,8 @@
-use Rattle.std.proofs.Common.{◌∙◌, Some, ap, length, subst, sym}
+use Rattle.std.proofs.Common.{◌∙◌, ap, length, subst, sym}
 use Rattle.std.proofs.lemmas.List.{length-set}
 use Rattle.lrc_code.specs.Places.{index_of}
 use Rattle.store_repair.specs.Opened.{AreOpened}
-use Rattle.store_repair.specs.Scrubbed.{damaged_by, said_damaged}
 use Rattle.store_repair.proofs.RepairLemmas.{opened_less}
-use Rattle.store_repair.proofs.ScrubLemmas.{same_said}
 use Rattle.store_repair.proofs.opening.open_survivors.Goals as goal
 
 pub refused-preserved : goal.refused-preserved
@@ -19,9 +17,7 @@ refused-preserved g c =
     record {
       sixteen = ap length c.leave_out.ensures.fragments ∙ length-set old.fragments.items (index_of c.in-Some.field-0.place) _ ∙ so.sixteen;
       long = c.leave_out.ensures.length ∙ so.long;
-      said = same_said (said_damaged c.refused.findings.items) (said_damaged c.note.new.findings.items)
-          (damaged_by c.in_ok-read_fault.field-0 (Some c.in-Some.field-0.place)) c.in_ok-note.ensures.said
-          (c.in_ok-read_fault.ensures (Some c.in-Some.field-0.place)) ∙ so.said;
+      said = c.in_ok-note_unread.ensures.said ∙ so.said;
       opened = subst (AreOpened shown code stripe c.args.length files new.set) (sym c.leave_out.ensures.fragments)
           (opened_less shown code stripe c.args.length files old.set new.set old.fragments.items c.in-Some.field-0.place
           so.sixteen c.leave_out.ensures.set so.opened);

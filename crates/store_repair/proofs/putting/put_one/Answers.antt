@@ -1,6 +1,9 @@
 use Rattle.std.proofs.lemmas.Result.{IfOk-weaker}
 use Rattle.store_repair.proofs.GivenLemmas.{placed_more, quiet_more}
 use Rattle.store_repair.proofs.KeptLemmas.{if_placed}
+use Rattle.std.proofs.Common.{subst, sym}
+use Rattle.std.specs.Prelude.{Contains}
+use Rattle.store_repair.proofs.NotedLemmas.{named_now, named_still}
 use Rattle.store_repair.proofs.putting.put_one.Goals as goal
 
 pub returns-in-Place-clause-named : goal.returns-in-Place-clause-named
@@ -34,3 +37,10 @@ pub returns-in_default-clause-changed : goal.returns-in_default-clause-changed
 returns-in_default-clause-changed g c = λ given from fresh before.
     quiet_more g.S.Store.kept g.S.Store.changed g.S.Store.kept_same g.met.S.Store.changed_then _ given _ _ from _ _
     (c.discard.ensures.kept _) before
+
+pub returns-in_ok-note-in-Leave-clause-grows : goal.returns-in_ok-note-in-Leave-clause-grows
+returns-in_ok-note-in-Leave-clause-grows g c = λ p has. named_still _ _ _ p c.in_ok-note-in-Leave.ensures.named
+    (subst (λ ps. Contains ps p) (sym c.in_ok-discard-in-Leave.ensures.named) has)
+
+pub returns-in_ok-note-in-Leave-clause-said : goal.returns-in_ok-note-in-Leave-clause-said
+returns-in_ok-note-in-Leave-clause-said g c = λ _ _. named_now _ _ c.args.place c.in_ok-note-in-Leave.ensures.named

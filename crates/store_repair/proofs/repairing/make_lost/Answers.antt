@@ -1,9 +1,42 @@
-use Rattle.std.proofs.Common.{refl}
+use Rattle.std.proofs.Common.{◌≡◌, ◌∙◌, IfOk, IfSome, ap, refl, subst, sym, true}
+use Rattle.lrc_code.specs.Sets.{is_in}
+use Rattle.store_repair.specs.Losses.{AreChecked}
+use Rattle.store_repair.specs.Opened.{AreMade}
 use Rattle.store_repair.proofs.ShownLemmas.{all_accounted}
 use Rattle.store_repair.proofs.repairing.make_lost.Goals as goal
+use Rattle.store_repair.proofs.repairing.make_lost.Goals.{then-not-matches+in_ok-made+in_default-2, else-not-matches}
 
 pub returns-clause-shown : goal.returns-clause-shown
 returns-clause-shown g c = λ reads.
     all_accounted (g.S.Store.listed c.args.store.now c.args.stripe.now.name.now) c.args.repair.now.code
     c.make.new.findings.items c.make.result
     (c.make.ensures.all refl)
+
+pub returns-clause-kept : goal.returns-clause-kept
+returns-clause-kept g c = λ given from before.
+    let kept = g.S.Store.kept c.args.stripe.now.name.now given from in
+    c.make.ensures.kept given from (elim c.if-not-matches.branch as (λ _. kept c.if-not-matches.store) [
+      | then-not-matches+in_ok-made+in_default-2 w ↦ subst kept (sym w.store-is) (w.in_ok-made.ensures.kept given from before)
+      | else-not-matches w ↦ subst kept (sym w.store-is) before
+    ])
+
+pub returns-clause-made : goal.returns-clause-made
+returns-clause-made g c =
+    let files = g.S.Store.files in
+    let shown = g.S.New.NewFragment.shown in
+    let code = c.args.repair.now.code in
+    let name = c.args.stripe.now.name.now in
+    let same : files c.if-not-matches.store ≡ files c.args.store.now =
+    elim c.if-not-matches.branch as (λ _. files c.if-not-matches.store ≡ files c.args.store.now) [
+      | then-not-matches+in_ok-made+in_default-2 w ↦ ap files w.store-is ∙ w.in_ok-made.ensures.same
+      | else-not-matches w ↦ ap files w.store-is
+    ] in
+    subst (λ fs. IfOk c.make.result (λ o. IfSome o (λ made. AreMade shown code (is_in made.set) c.args.length name fs made.places.items
+    made.files.items))) same
+    (subst (λ len. IfOk c.make.result (λ o. IfSome o (λ made. AreMade shown code (is_in made.set) len name
+    (files c.if-not-matches.store) made.places.items made.files.items))) c.in_ok-opened.ensures.length c.make.ensures.made)
+
+pub returns-clause-checked : goal.returns-clause-checked
+returns-clause-checked g c =
+    subst (λ len. IfOk c.make.result (λ o. IfSome o (λ made. made.is_checked ≡ true → AreChecked c.args.repair.now.code (is_in made.set)
+    len))) c.in_ok-opened.ensures.length c.make.ensures.checked

@@ -360,3 +360,21 @@ returns-clause-changed g c =
     (subst (λ o. IfSome o (λ m. AreMade shown code (is_in m.set) c.in-Some.length stripe old m.places.items m.files.items))
     c.in-Some-made.is c.in_ok-made.ensures.made))
     c.make_lost.ensures.kept c.put_all.ensures.changed
+
+pub returns-in_err-rebuilt-clause-untouched : goal.returns-in_err-rebuilt-clause-untouched
+returns-in_err-rebuilt-clause-untouched g c =
+    let files = g.S.Store.files in
+    let r = c.args.repair.now.replace_damaged in
+    let s = c.args.stripe.now.name.now in
+    let new = files c.put_all.new.store in
+    subst (λ old. AreUntouched r s old new) c.make_lost.ensures.same
+    (untouched_if r c.in-Some-made.made.is_checked s (files c.make_lost.new.store) new c.put_all.ensures.untouched)
+
+pub returns-in_err-append-clause-untouched : goal.returns-in_err-append-clause-untouched
+returns-in_err-append-clause-untouched g c =
+    let files = g.S.Store.files in
+    let r = c.args.repair.now.replace_damaged in
+    let s = c.args.stripe.now.name.now in
+    let new = files c.put_all.new.store in
+    subst (λ old. AreUntouched r s old new) c.make_lost.ensures.same
+    (untouched_if r c.in-Some-made.made.is_checked s (files c.make_lost.new.store) new c.put_all.ensures.untouched)
