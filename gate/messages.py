@@ -15,16 +15,17 @@ CRATES = ["rebuild_store", *sorted(it.name for it in (ROOT / "crates").glob("sto
 LEFT_OUT = {"progress.rt", "tasks.rt"}
 # Texts that are filled into others, or that others take the place of before anything is said.
 PARTS = {" (os error ", "can be made", "would be rebuilt", "standard output", "standard output: <>", "standard input", "Max file size",
-         ", with --replace-damaged ", "; left without --replace-damaged: ", "the survivors don't determine the fragment",
+         ", with --replace-damaged ", "; left without --replace-damaged: <>", "the survivors don't determine the fragment",
          "a run that isn't known", "a survivor can't be read: <>", "a rebuilt fragment can't be written: <>"}
 LITERAL = r'"((?:[^"\\]|\\[\s\S])*)"'
 HELP = rf"(?:const \w*(?:HELP|ABOUT): &str =|\bhelp:)\s*{LITERAL}[;,]"
 
 
 def plain(text):
-    """A text of the sources with <> for what is filled in, and without what is before the message itself."""
+    """A text of the sources with <> for what is filled in, or follows a colon at its end, and without what is before the message itself."""
     text = text.replace("{SUMS_NAME}", "SHA256SUMS").replace('\\"', '"').partition("\\n")[0].replace("{{", "\0").replace("}}", "\1")
-    return without_beginning(re.sub(r"\{[^{}]*\}", "<>", text).replace("\0", "{").replace("\1", "}"))
+    text = re.sub(r"\{[^{}]*\}|(?<=: )$", "<>", text)
+    return without_beginning(text.replace("\0", "{").replace("\1", "}"))
 
 
 def without_beginning(text):

@@ -60,11 +60,11 @@ impl Display for Reason {
         match self {
             Reason::Unknown(error) | Reason::Unread(error) | Reason::Unwritten(error) => write!(
                 f,
-                ": {error}"
+                "{error}"
             ),
-            Reason::LengthsDiffer(lengths) => write!(f, ": {lengths}"),
-            Reason::Suspected(suspects) => write!(f, ": {suspects}"),
-            Reason::Unsettled(fault) => write!(f, ": {fault}"),
+            Reason::LengthsDiffer(lengths) => write!(f, "{lengths}"),
+            Reason::Suspected(suspects) => write!(f, "{suspects}"),
+            Reason::Unsettled(fault) => write!(f, "{fault}"),
             _ => Ok(()),
         }
     }
@@ -84,31 +84,31 @@ impl Reason {
         }
     }
 
-    /// What is said of it; where it has more to tell, a colon and that follow.
+    /// What is said of it; what it has more to tell follows a colon.
     fn text(&self) -> &'static str {
         match self {
             Reason::Absent => "is lost",
             Reason::OtherLength => "has another length than the other fragments of the stripe",
             Reason::Dangling => "is a link to nothing",
             Reason::NoFile => "is no regular file",
-            Reason::Unknown(_) => "can't be looked at",
+            Reason::Unknown(_) => "can't be looked at: ",
             Reason::NoSurvivor => "no fragment can be read",
             Reason::LengthsDiffer(_) =>
-                "its fragments have different lengths, and no check says which is right",
+                "its fragments have different lengths, and no check says which is right: ",
             Reason::Several => "can't be rebuilt: the fragments that survive don't determine it",
             Reason::Damaged => "is damaged: only without it the others belong together",
             Reason::TakenForDamaged =>
                 "is taken for the damaged one, which is a guess: only without it the others belong together",
-            Reason::Suspected(_) => "contradiction: one of these is damaged",
+            Reason::Suspected(_) => "contradiction: one of these is damaged: ",
             Reason::Contradiction => "contradiction, and which fragment is damaged can't be told",
             Reason::Differs => "differs from the checksums",
             Reason::RebuiltDiffers =>
                 "was rebuilt, and what was rebuilt differs from the checksums",
             Reason::Changed => "changed meanwhile: nothing of its stripe is put in its place",
-            Reason::Unread(_) => "can't be read",
-            Reason::Unwritten(_) => "can't be put in its place",
+            Reason::Unread(_) => "can't be read: ",
+            Reason::Unwritten(_) => "can't be put in its place: ",
             Reason::NoCheck => "isn't replaced: no check covers what would be put in its place",
-            Reason::Unsettled(_) => "was left over, or isn't known to be on the disk",
+            Reason::Unsettled(_) => "was left over, or isn't known to be on the disk: ",
             Reason::CameMeanwhile => "has come meanwhile, and stays as it is",
             Reason::KeptThere =>
                 "isn't replaced: a fragment that was replaced before is kept beside it",
