@@ -8,7 +8,7 @@
 
 The status is that of what was run. `rt ci` says when a crate is proved, but not when its proof began nor what it took. So its processes are
 looked at once a second: how many seconds of a processor each has had, for which crate and which part of its proof. Left out are processes
-of another form, and of each what it had after the last look."""
+of another form, and of each what it had after the last look. Those that prove tests get a lower priority then."""
 
 import collections
 import concurrent.futures
@@ -27,6 +27,9 @@ ROOT = pathlib.Path(__file__).resolve().parent.parent
 TIMES = ROOT / "out" / "gate-times"
 # By how much the priority of the scripts beside them is lower than that of proofs, so that they take what these leave.
 NICER = "15"
+# By how much that of the proofs of tests is, for which no crate waits: `rt ci` takes them first where they have more lines than what is to
+# come after a crate.
+TESTS_NICER = 5
 # Seconds between two looks at the processes.
 BETWEEN = 1
 TICKS = os.sysconf("SC_CLK_TCK")
@@ -126,6 +129,8 @@ class Seen:
             try:
                 words = pathlib.Path(f"/proc/{number}/cmdline").read_text(errors="replace").split("\0")
                 found = work_of(words, pathlib.Path(os.readlink(f"/proc/{number}/cwd")))
+                if found and found[1] == "tests":
+                    os.setpriority(os.PRIO_PROCESS, number, TESTS_NICER)
             except OSError:
                 return None
             if found is None:

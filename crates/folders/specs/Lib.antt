@@ -8,4 +8,5 @@ pub mod Kept
 pub mod Others
 pub mod Placed
 pub mod Recorded
+pub mod Removed
 pub mod Worlds

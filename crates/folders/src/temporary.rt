@@ -1,6 +1,7 @@
 //! Files at temporary paths, at which nobody looks for a file that is whole.
-ghost use Rattle.std.specs.Prelude.{◌≡◌, [], ℕ, List, Bool, true, IfOk, IfSome, Some};
+ghost use Rattle.std.specs.Prelude.{◌≡◌, [], ℕ, List, Bool, true, IfOk, IfSome, OnOk, Some};
 ghost use Rattle.folders.specs.Kept.{KeepsBut};
+ghost use Rattle.folders.specs.Removed.{EndsByRemoving};
 
 use crate::folder::{Folder, NewFile};
 use std::io::{self, ErrorKind};
@@ -41,7 +42,8 @@ fn is_held<N: NewFile>(file: &N) -> io::Result<bool> {
 
 /// Takes away a temporary path.
 pub fn remove_temporary<F: Folder>(folder: &mut F, path: &str) -> io::Result<()>
-    ensures { KeepsBut path.now (F.calls folder.old) (F.calls folder.new) }
+    ensures whenever { KeepsBut path.now (F.calls folder.old) (F.calls folder.new) }
+    ensures removed { OnOk result (EndsByRemoving path.now (F.calls folder.new)) }
 {
     folder.remove(path)
 }

@@ -1,5 +1,5 @@
 -- New files that get names.
-use Rattle.std.specs.Prelude.{ℕ, List, IsSomeAnd, Option, Result, Ok, Err}
+use Rattle.std.specs.Prelude.{ℕ, List, IsSomeAnd, Option, Result, Ok, Err, string_bytes}
 use Rattle.folders.specs.Calls.{Answered}
 use Rattle.folders.specs.Disk.{HasWhole}
 use Rattle.folders.specs.Placed.{WasRefused}
@@ -11,6 +11,10 @@ use Rattle.stores.specs.declared.store.Placed.TheVariants as outcome
 -- what was written to a new file; nothing is said if bytes are missing
 abbrev pub content_of : {N : Type 0} {G : Ghosts N} → NewFile N G → Option (List ℕ)
 content_of {G = G} new = G.written new.unfinished.file
+
+-- the temporary path at which a new file was made
+abbrev pub path_of : {N : Type 0} {G : Ghosts N} → NewFile N G → List ℕ
+path_of new = string_bytes new.unfinished.made_at
 
 -- what became of a file that was to get a path at which nothing is, by what the system answered
 abbrev pub outcome_by : {T E : Type 0} → Result T E → PlacedName

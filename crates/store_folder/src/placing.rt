@@ -2,8 +2,9 @@
 ghost use Rattle.std.specs.Prelude.{◌≡◌, [], IfOk, IsOkAnd, IsSome, IsSomeAnd, MatchResult, OnOk, Some, false, true, string_bytes};
 ghost use Rattle.folders.specs.Disk.{HasWhole};
 ghost use Rattle.folders.specs.Placed.{HasPath, WasRefused};
+ghost use Rattle.folders.specs.Removed.{EndsByRemoving};
 ghost use Rattle.store_folder.specs.Kept.{GivesOne, KeepsEach};
-ghost use Rattle.store_folder.specs.Placed.{IsPlacedAt, content_of, outcome_by};
+ghost use Rattle.store_folder.specs.Placed.{IsPlacedAt, content_of, outcome_by, path_of};
 ghost use Rattle.store_folder.specs.Written.{PutsOne};
 ghost use Rattle.store_folder.specs.Temporary.{is_temporary};
 
@@ -104,13 +105,15 @@ pub fn create_private<F: Folder>(
 
 /// Removes a new file, which gets no name.
 pub fn discard_new<F: Folder>(files: &mut F, new: NewFile<F::New>) -> io::Result<()>
-    ensures { KeepsEach (F.calls files.old) (F.calls files.new) }
+    ensures whenever { KeepsEach (F.calls files.old) (F.calls files.new) }
+    ensures removed { OnOk result (EndsByRemoving (path_of new) (F.calls files.new)) }
 {
     remove_temporary(files, new.unfinished.made_at.as_str())
 }
 
 /// Writes a file to the disk and gives it the name at a path, if nothing is there. Whenever that ends, each path but temporary ones has
-/// what it had, or, if it had nothing and is this one, all the bytes of the file. The name may still have to be written to the disk.
+/// what it had, or, if it had nothing and is this one, all the bytes of the file. The name may still have to be written to the disk. After
+/// Ok the path at which the file was made is taken away.
 ///
 /// # Errors
 ///
@@ -119,6 +122,7 @@ pub fn place_new<F: Folder>(files: &mut F, new: NewFile<F::New>, path: &str) -> 
     ensures whenever { GivesOne path.now (content_of new) (F.calls files.old) (F.calls files.new) }
     ensures placed { is_temporary path.now ≡ false
         → IfOk result (IsPlacedAt path.now (content_of new) (F.calls files.new)) }
+    ensures removed { OnOk result (EndsByRemoving (path_of new) (F.calls files.new)) }
 {
     let Tried { made_at, placed } = try_path(files, new.unfinished, path);
     match remove_temporary(files, made_at.as_str()) {
@@ -156,6 +160,7 @@ pub(crate) fn try_path<F: Folder>(
     ensures given { IfOk result.placed (λ placed. MatchResult placed.answer (λ _. HasPath path.now (F.New.written new.file)
         (F.calls files.new)) (λ _. WasRefused path.now (F.calls files.new))) }
     ensures some { IfOk result.placed (λ _. IsSome (F.New.written new.file)) }
+    ensures same { string_bytes result.made_at ≡ string_bytes new.made_at }
 {
     let whole = new.refuse_part();
     let Unfinished { file, made_at, .. } = new;

@@ -7,6 +7,7 @@ pub mod Findings
 pub mod Opened
 pub mod Kept
 pub mod Repaired
+pub mod Reasons
 pub mod Scrubbed
 pub mod Lengths
 pub mod Files

@@ -4,6 +4,7 @@ ghost use Rattle.lrc_code.specs.declared.places.Place.{Place};
 ghost use Rattle.lrc_code.specs.Sets.{is_in};
 ghost use Rattle.store_repair.specs.Findings.{IsMendedBy, differing_by, is_unsettled, named, named_by, said_differing, says_unsettled};
 ghost use Rattle.store_repair.specs.Losses.{IsCovered};
+ghost use Rattle.store_repair.specs.Reasons.{IsReasonOf, is_damage, is_of_device};
 ghost use Rattle.store_repair.specs.Scrubbed.{damaged_by, said_damaged};
 
 use crate::coverage::is_covered;
@@ -73,7 +74,8 @@ impl Display for Reason {
 impl Reason {
     /// Why a fragment isn't among the survivors of a stripe, by what is under its name; a file has another length.
     pub fn of(found: Found) -> Reason
-        ensures { (place : Option Place) → damaged_by result place ≡ [] }
+        ensures none { (place : Option Place) → damaged_by result place ≡ [] }
+        ensures is { IsReasonOf found result }
     {
         match found {
             Found::Absent => Reason::Absent,
@@ -119,6 +121,7 @@ impl Reason {
     pub fn is_damage(&self) -> bool
         ensures damaged { (p : Place) → Contains (damaged_by self.now (Some p)) p → result ≡ true }
         ensures differs { (p : Place) → Contains (differing_by self.now (Some p)) p → result ≡ true }
+        ensures is { result ≡ is_damage self.now }
     {
         matches!(
             self,
@@ -127,7 +130,9 @@ impl Reason {
     }
 
     /// Whether the system refused to read or write something.
-    pub fn is_of_device(&self) -> bool {
+    pub fn is_of_device(&self) -> bool
+        ensures { result ≡ is_of_device self.now }
+    {
         matches!(
             self,
             Reason::Unknown(_) | Reason::Unread(_) | Reason::Unwritten(_) | Reason::Unsettled(_)

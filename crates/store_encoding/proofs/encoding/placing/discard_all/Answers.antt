@@ -5,4 +5,4 @@ pub made-init : goal.made-init
 made-init g c = keeps_all _ _ _
 
 pub made-preserved : goal.made-preserved
-made-preserved g c = keeps_after _ _ _ _ _ c.made.invariant c.discard_new.ensures
+made-preserved g c = keeps_after _ _ _ _ _ c.made.invariant c.discard_new.ensures.whenever

@@ -22,7 +22,7 @@ pub names-preserved-then-is_some : goal.names-preserved-then-is_some
 names-preserved-then-is_some g c =
     let step = c.in-Some.ensures.steps in record {
       same = c.names.invariant.same;
-      gives = each_after _ _ _ _ _ _ c.names.invariant.gives (each_quiet _ _ _ _ _ c.discard_new.ensures);
+      gives = each_after _ _ _ _ _ _ c.names.invariant.gives (each_quiet _ _ _ _ _ c.discard_new.ensures.whenever);
       got = λ none. absurd (not_none c.names.refused c.is_some.result c.is_some.ensures c.if-is_some.true none);
       rest = λ path content made. c.names.invariant.rest path content
           (made_one c.args.target.now.folder.now c.in-Some.name.now (content_of c.in-Some.one.file) _ _ _ _ step.0

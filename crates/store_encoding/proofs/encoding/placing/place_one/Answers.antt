@@ -5,7 +5,7 @@ use Rattle.store_encoding.proofs.Encoded.{due_placed, given_none, on_ok}
 use Rattle.store_encoding.proofs.encoding.placing.place_one.Goals as goal
 
 pub returns-in_default-clause-whenever : goal.returns-in_default-clause-whenever
-returns-in_default-clause-whenever g c = given_none _ _ _ _ c.discard_new.ensures
+returns-in_default-clause-whenever g c = given_none _ _ _ _ c.discard_new.ensures.whenever
 
 pub returns-in-Ok-place_new-clause-due : goal.returns-in-Ok-place_new-clause-due
 returns-in-Ok-place_new-clause-due g c =
