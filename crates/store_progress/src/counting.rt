@@ -1,6 +1,4 @@
 //! What is read or written of a file, counted as far as it is done.
-ghost use Rattle.std.specs.Prelude.{None};
-
 use crate::progress::Progress;
 use std::io;
 use store_repair::{Fragment, NewFragment};
@@ -14,7 +12,7 @@ pub struct CountedSource<'p, F> {
 }
 
 impl<F: Fragment> Fragment for CountedSource<'_, F> {
-    ghost shown = { λ _. None };
+    ghost shown = { λ source. F.shown source.file };
 
     fn read_at(&self, from: usize, bytes: &mut [u8]) -> io::Result<()> {
         let many = bytes.len() as u64;
@@ -33,7 +31,7 @@ pub struct Counted<'p, N> {
 }
 
 impl<N: NewFragment> NewFragment for Counted<'_, N> {
-    ghost shown = { λ _. None };
+    ghost shown = { λ counted. N.shown counted.file };
 
     fn append(&mut self, bytes: &[u8]) -> io::Result<()> {
         self.file.append(bytes)?;
