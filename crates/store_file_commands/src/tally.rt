@@ -1,4 +1,6 @@
 //! What became of the files that a command was given.
+ghost use Rattle.std.specs.Prelude.{◌≡◌, ◌-◌, ◌≤◌, IfOk, IsOk, OnErr, Ok, if◌then◌else◌};
+
 use std::alloc::AllocError;
 use std::io;
 use store_faults::{DEVICE, DONE, FileFault, device, say, write};
@@ -13,7 +15,10 @@ pub(crate) struct Tally {
 
 impl Tally {
     /// That of a command that has no file done yet. A leftover that couldn't be removed asks for a status too.
-    pub(crate) fn new(is_clean: bool) -> Tally {
+    pub(crate) fn new(is_clean: bool) -> Tally
+        ensures done { result.done ≡ 0 }
+        ensures status { result.status ≡ (if is_clean then 0 else 3) }
+    {
         Tally {
             done: 0,
             status: if is_clean { DONE } else { DEVICE },
@@ -27,7 +32,11 @@ impl Tally {
         rt: &HostRuntime,
         progress: Option<&Progress>,
         done: Result<(), FileFault>,
-    ) -> Result<(), AllocError> {
+    ) -> Result<(), AllocError>
+        ensures status { self.old.status ≤ self.new.status }
+        ensures done { self.old.done ≤ self.new.done }
+        ensures unnoted { OnErr result (self.new ≡ self.old) }
+    {
         let fault = match done {
             Ok(()) => {
                 self.done = self.done.saturating_add(1);
@@ -46,7 +55,9 @@ impl Tally {
     }
 
     /// Of how many of so many files the work isn't done.
-    pub(crate) fn left_of(&self, files: usize) -> u64 {
+    pub(crate) fn left_of(&self, files: usize) -> u64
+        ensures { result ≡ files - self.now.done }
+    {
         (files as u64).saturating_sub(self.done)
     }
 }
@@ -68,7 +79,9 @@ pub(crate) fn released(
     folder: &str,
     status: Result<u8, FileFault>,
     released: io::Result<()>,
-) -> Result<u8, FileFault> {
+) -> Result<u8, FileFault>
+    ensures { IfOk result (λ s. (status ≡ Ok s) × IsOk released) }
+{
     match (status, released) {
         (Ok(_), Err(error)) => Err(device(rt.alloc(), folder, error)),
         (status, _) => status,
