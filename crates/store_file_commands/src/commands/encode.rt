@@ -42,7 +42,7 @@ fn encode_locked<R: Threads + Sync>(
         mut target,
         is_clean,
     } = ready?;
-    let done = encode_into(threads, rt, options, &mut target, is_clean);
+    let done = encode_all(threads, rt, options, &mut target, is_clean);
     drop(target);
     let done = done?;
     if !options.quiet {
@@ -76,19 +76,6 @@ fn readied<'o>(
     }
 }
 
-/// Encodes the files into a store, and writes its list of digests anew.
-fn encode_into<R: Threads + Sync>(
-    threads: &R,
-    rt: &HostRuntime,
-    options: &EncodeOptions<'_>,
-    target: &mut Target<'_>,
-    is_clean: bool,
-) -> Result<Tally, FileFault> {
-    let done = encode_all(threads, rt, options, target, is_clean)?;
-    write_new_sums(rt, &mut SystemFolder::new(rt), target)?;
-    Ok(done)
-}
-
 /// The work on the files, each of which is digested and then encoded.
 fn task_of(rt: &HostRuntime, options: &EncodeOptions<'_>) -> Task {
     let mut bytes = 0u64;
@@ -108,7 +95,7 @@ fn length_of(rt: &HostRuntime, path: &str) -> u64 {
     fs::metadata(rt, path).map_or(0, |metadata| metadata.len())
 }
 
-/// Encodes the files one after the other, and says why one isn't.
+/// Encodes the files one after the other, says why one isn't, and then writes the store's list of digests anew.
 fn encode_all<R: Threads + Sync>(
     threads: &R,
     rt: &HostRuntime,
@@ -124,6 +111,7 @@ fn encode_all<R: Threads + Sync>(
         progress.count_file(rt, length_of(rt, path));
     }
     progress.clear(rt);
+    write_new_sums(rt, &mut SystemFolder::new(rt), target)?;
     Ok(done)
 }
 
