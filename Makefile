@@ -181,17 +181,20 @@ test:
 	@tools/timed.py anew
 	@$(MAKE) --no-print-directory --output-sync=target -j$(shell nproc) $(BEFORE)
 	@$(MAKE) --no-print-directory proofs
-	@$(MAKE) --no-print-directory --output-sync=target -j$(shell nproc) $(AFTER)
 	@tools/timed.py table
 
 # A proof was seen to take 3 GB at most, less than rt allows for, so RT_JOBS has it run one on each processor, and two more, so that the
-# longest chain of crates doesn't wait while tests are proved, which give way to it. gate/library.sh builds in a copy of its own, over crates of which lrc_plan is proved
-# last, and gate/refused.py over those below farm_files and some of them, so both run beside the proofs from then on.
+# longest chain of crates doesn't wait while tests are proved, which give way to it. gate/library.sh builds in a copy of its own, over
+# crates of which lrc_plan is proved last, and gate/refused.py over those below farm_files and some of them, so both run beside the proofs
+# from then on, and beside the scripts that come after these.
 proofs:
 	tools/build.py settle
-	RT_JOBS=$(shell expr $$(nproc) + 2) tools/timed.py proofs --beside lrc_plan gate/library.sh --beside farm_files gate/refused.py rt ci
+	RT_JOBS=$(shell expr $$(nproc) + 2) tools/timed.py proofs --beside lrc_plan gate/library.sh --beside farm_files gate/refused.py \
+	  --then '$(MAKE) --no-print-directory --output-sync=target -j$(shell nproc) after' rt ci
 
-.PHONY: proofs $(BEFORE) $(AFTER)
+after: $(AFTER)
+
+.PHONY: proofs after $(BEFORE) $(AFTER)
 $(BEFORE) $(AFTER):
 	tools/timed.py script $@
 

@@ -3,7 +3,9 @@
 
     timed.py anew                                   forgets what was timed before
     timed.py script COMMAND..                       runs a script
-    timed.py proofs [--beside CRATE SCRIPT].. rt ci runs the proofs, and scripts beside them, each as soon as they have proved its crate
+    timed.py proofs [--beside CRATE SCRIPT].. [--then COMMAND] rt ci
+                                                    runs the proofs, scripts beside them, each as soon as they have proved its crate, and
+                                                    after them this command, beside what of the scripts hasn't ended by then
     timed.py table                                  prints what was timed since `anew`
 
 The status is that of what was run. `rt ci` says when a crate is proved, but not when its proof began nor what it took. So its processes are
@@ -16,6 +18,7 @@ import json
 import os
 import pathlib
 import re
+import shlex
 import signal
 import subprocess
 import sys
@@ -144,9 +147,9 @@ class Seen:
             keep(crate=work[0], part=work[1], seconds=had, first=first, last=self.last[work])
 
 
-def proofs(beside, command):
+def proofs(beside, then, command):
     """Runs `rt ci`, says after some of its lines how much time has passed, and starts each of these scripts beside it, when its crate is
-    proved; gives the status of the first that failed."""
+    proved, and another command after it; gives the status of the first that failed."""
     start, scripts, waits, left = time.monotonic(), [], [], list(beside)
     ran = subprocess.Popen(command, stdout=subprocess.PIPE, text=True, errors="replace")
     seen, ended = Seen(ran.pid), threading.Event()
@@ -177,6 +180,9 @@ def proofs(beside, command):
             statuses = [end(command, ran, start)]
             if statuses == [0]:
                 start_beside(list(left))
+                # The descriptors by which make counts its jobs go to what it runs.
+                scripts += [subprocess.Popen(then, close_fds=False)] if then else []
+                statuses += [scripts[-1].wait()] if then else []
             statuses += [it.result() for it in waits]
         finally:
             ended.set()
@@ -224,10 +230,12 @@ def main(words):
     elif words[:1] == ["script"] and words[1:]:
         sys.exit(script(words[1:]))
     elif words[:1] == ["proofs"] and words[1:]:
-        beside, words = [], words[1:]
+        beside, then, words = [], [], words[1:]
         while words[:1] == ["--beside"] and words[3:]:
             beside, words = [*beside, (words[1], words[2])], words[3:]
-        sys.exit(proofs(beside, words))
+        if words[:1] == ["--then"] and words[2:]:
+            then, words = shlex.split(words[1]), words[2:]
+        sys.exit(proofs(beside, then, words))
     else:
         sys.exit(__doc__)
 
