@@ -10,6 +10,7 @@ pub mod OpenedLemmas
 pub mod KeptLemmas
 pub mod NamedLemmas
 pub mod NotedLemmas
+pub mod AccountedLemmas
 pub mod RepairLemmas
 pub mod MadeLemmas
 pub mod PutLemmas

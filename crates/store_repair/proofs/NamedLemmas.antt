@@ -8,7 +8,7 @@ use Rattle.std.proofs.lemmas.List.{get_or_default}
 use Rattle.std.proofs.lemmas.List.Elements.{Contains-append_left, Contains-append_right, Contains-push}
 use Rattle.lrc_code.specs.declared.places.Place.{Place}
 use Rattle.store_repair.specs.Findings.{AreAllMended, IsMendedBy, differing_by, is_unsettled, named, named_by, said_differing}
-use Rattle.store_repair.specs.Findings.{says_unsettled}
+use Rattle.store_repair.specs.Findings.{is_without_length, says_no_length, says_unsettled}
 use Rattle.store_repair.specs.Scrubbed.{damaged_by, said_damaged}
 use Rattle.store_repair.specs.declared.outcomes.Finding.{Finding}
 
@@ -44,7 +44,13 @@ unsettled_append (x ∷ xs) ys =
 pub unsettled_push : (xs : List Finding) (f : Finding) → is_unsettled (xs ++ (f ∷ [])) ≡ (is_unsettled xs || says_unsettled f.reason)
 unsettled_push xs f = unsettled_append xs (f ∷ []) ∙ ap (λ b. is_unsettled xs || b) (or_none (says_unsettled f.reason))
 
--- where none of two lists of findings says so, the second doesn't
+pub without_length_push : (xs : List Finding) (f : Finding)
+    → is_without_length (xs ++ (f ∷ [])) ≡ (is_without_length xs || says_no_length f.reason)
+without_length_push [] f = or_none (says_no_length f.reason)
+without_length_push (x ∷ xs) f = ap (λ b. says_no_length x.reason || b) (without_length_push xs f)
+    ∙ or_assoc (says_no_length x.reason) (is_without_length xs) (says_no_length f.reason)
+
+-- where none of two lists of findings says that something is unsettled, the second doesn't
 pub settled_later : (all first later : List Finding) → all ≡ first ++ later → is_unsettled all ≡ false → is_unsettled later ≡ false
 settled_later all first later are none =
     (or_parts (is_unsettled first) (is_unsettled later) (sym (unsettled_append first later) ∙ ap is_unsettled (sym are) ∙ none)).1

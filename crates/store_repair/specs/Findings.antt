@@ -15,6 +15,10 @@ abbrev pub named : List Finding → List Place
 named [] = []
 named (finding ∷ findings) = named_by finding.place ++ named findings
 
+-- what findings name, others name too
+abbrev pub NamesStay : List Finding → List Finding → Type 0
+NamesStay old new = (p : Place) → Contains (named old) p → Contains (named new) p
+
 -- the place of a finding that says that its fragment differs from the store's checksums
 abbrev pub differing_by : ReasonName → Option Place → List Place
 differing_by reason.Differs place = named_by place
@@ -34,6 +38,17 @@ says_unsettled reason = false
 abbrev pub is_unsettled : List Finding → Bool
 is_unsettled [] = false
 is_unsettled (finding ∷ findings) = says_unsettled finding.reason || is_unsettled findings
+
+-- whether a finding says that it isn't known how many bytes a stripe's fragments have
+abbrev pub says_no_length : ReasonName → Bool
+says_no_length reason.NoSurvivor = true
+says_no_length (reason.LengthsDiffer lengths) = true
+says_no_length reason = false
+
+-- whether one of them does
+abbrev pub is_without_length : List Finding → Bool
+is_without_length [] = false
+is_without_length (finding ∷ findings) = says_no_length finding.reason || is_without_length findings
 
 -- a finding's place has its fragment again; a finding without a place isn't mended
 abbrev pub IsMendedBy : List Place → Option Place → Type 0

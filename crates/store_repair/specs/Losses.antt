@@ -12,7 +12,11 @@ use Rattle.store_repair.specs.Damage.{all_but, IsDetermined, without}
 abbrev pub CanContradict : CodeName → (Place → Bool) → Type 0
 CanContradict code survives = (s : Place → ℕ) × GivesBytes s × ((e : Place → ℕ) → ¬ Extends (tables_of code) survives s e)
 
--- and the survivors have bytes
+-- any bytes at the survivors' places are those of a stripe, so that no damage shows
+abbrev pub CannotContradict : CodeName → (Place → Bool) → Type 0
+CannotContradict code survives = (s : Place → ℕ) → GivesBytes s → (e : Place → ℕ) × Extends (tables_of code) survives s e
+
+-- some bytes are those of no stripe, and the survivors have bytes
 abbrev pub AreChecked : CodeName → (Place → Bool) → ℕ → Type 0
 AreChecked code survives len = (0 < len) × CanContradict code survives
 

@@ -1,6 +1,6 @@
 -- The fragments of a stripe that were opened, by the places' indexes.
 use Rattle.std.specs.Prelude.{◌≡◌, ◌<◌, ℕ, List, Bool, true, is_some, slice_index_or, Option, Some, None, All, AllPairs, false}
-use Rattle.std.specs.Prelude.{length, IfSome}
+use Rattle.std.specs.Prelude.{length, IfSome, ◌&&◌}
 use Rattle.lrc_code.specs.declared.places.Place.{Place}
 use Rattle.lrc_code.specs.declared.places.Place.TheVariants.{X0}
 use Rattle.lrc_code.specs.declared.codes.Code.{Code as CodeName}
@@ -12,7 +12,9 @@ use Rattle.lrc_plan.specs.Stripes.{at_place, IsRebuilt}
 use Rattle.store_repair.specs.Mended.{AreLost}
 use Rattle.store_repair.specs.Scrubbed.{AreOfOneStripe}
 use Rattle.stores.specs.Store.{Files, HasName, IsOpened, ShownFiles}
+use Rattle.stores.specs.Stripes.{has_file}
 use Rattle.stores.specs.declared.store.Placed.TheVariants as placed
+use Rattle.stores.specs.declared.stripes.Found.{Found as FoundName}
 
 -- the place of an index
 abbrev pub nth_place : ℕ → Place
@@ -36,6 +38,10 @@ pub record AreOpened {F : Type 0} (shown : F → Option (List ℕ)) (code : Code
 -- a name has so many bytes
 abbrev pub IsThereWith : List ℕ → ℕ → Files → Place → Type 0
 IsThereWith stripe len files p = (bytes : List ℕ) × (files.fragments stripe p ≡ Some bytes) × (length bytes ≡ len)
+
+-- each place of a set is the code's, and a file of the stripe's length was found there
+abbrev pub AreFound : CodeName → List FoundName → ℕ → (Place → Bool) → Type 0
+AreFound code files len survives = (p : Place) → survives p ≡ true → (has_place (tables_of code) p && has_file files len p) ≡ true
 
 -- no place is listed twice
 abbrev pub AreApart : List Place → Type 0

@@ -9,8 +9,8 @@ use Rattle.stores.specs.declared.store.Placed.TheVariants as placed
 use Rattle.std.specs.declared.io.Error.{Error}
 use Rattle.store_repair.specs.declared.outcomes.Finding.{Finding}
 use Rattle.stores.specs.declared.stripes.Found.{Found as FoundName}
-use Rattle.store_repair.specs.Findings.{named, said_differing}
-use Rattle.stores.specs.Stripes.{has_other_file}
+use Rattle.store_repair.specs.Findings.{is_without_length, named, said_differing}
+use Rattle.stores.specs.Stripes.{has_file, has_other_file}
 use Rattle.store_repair.specs.Losses.{AreCovered, IsCovered}
 use Rattle.store_repair.specs.Scrubbed.{AreOfOneStripe, said_damaged}
 use Rattle.stores.specs.Store.{ShownFiles}
@@ -36,6 +36,30 @@ IfNotMade P attempt.GivenUp = P
 abbrev pub IsAccountedFor : CodeName → (Place → Bool) → List Place → List Finding → Place → Type 0
 IsAccountedFor code survives made findings p =
     has_place (tables_of code) p ≡ true → survives p ≡ false → Contains made p ⊎ Contains (named findings) p
+
+-- it isn't known how many bytes a stripe's fragments have: a finding says so, and nothing survives
+abbrev pub IsWithoutLength : (Place → Bool) → List Finding → Type 0
+IsWithoutLength survives findings = (is_without_length findings ≡ true) × ((p : Place) → survives p ≡ false)
+
+-- each place of the code survives, has a fragment made for it, or is named by a finding; or the stripe's length isn't known
+abbrev pub AreAccountedFor : CodeName → (Place → Bool) → List Place → List Finding → Type 0
+AreAccountedFor code survives made findings =
+    ((p : Place) → IsAccountedFor code survives made findings p) ⊎ IsWithoutLength survives findings
+
+-- the same of each place at which no file of the stripe's length was found
+abbrev pub AreLostAccountedFor : CodeName → (Place → Bool) → List FoundName → ℕ → List Place → List Finding → Type 0
+AreLostAccountedFor code survives files len made findings =
+    ((p : Place) → has_file files len p ≡ false → IsAccountedFor code survives made findings p) ⊎ IsWithoutLength survives findings
+
+-- a place of the code at which a file of the stripe's length was found survives, or is named by a finding
+abbrev pub IsOpenedOrNamed : CodeName → List FoundName → ℕ → (Place → Bool) → List Finding → Place → Type 0
+IsOpenedOrNamed code files len survives findings p =
+    has_place (tables_of code) p ≡ true → has_file files len p ≡ true → survives p ≡ false → Contains (named findings) p
+
+-- each such place does, or the stripe's length isn't known
+abbrev pub AreOpenedOrNamed : CodeName → List FoundName → ℕ → (Place → Bool) → List Finding → Type 0
+AreOpenedOrNamed code files len survives findings =
+    ((p : Place) → IsOpenedOrNamed code files len survives findings p) ⊎ IsWithoutLength survives findings
 
 -- Damage of what was read shows, or of what was made of it, where not all survivors had to be read: the store knows digests of the
 -- fragments that were made, or those that were read cover them.

@@ -1,5 +1,5 @@
 //! Reading few of a stripe's survivors: as few as determine what is lost, or as few as cover it.
-ghost use Rattle.std.specs.Prelude.{◌≡◌, ◌&&◌, All, IfOk, IfSome, true, vec_len};
+ghost use Rattle.std.specs.Prelude.{◌≡◌, ◌&&◌, ℕ, All, IfOk, IfSome, true, vec_len};
 ghost use Rattle.lrc_code.specs.Code.{has_place};
 ghost use Rattle.lrc_code.specs.Codes.{tables_of};
 ghost use Rattle.store_repair.specs.declared.settings.Reads.TheVariants.{All as ReadsAll};
@@ -8,7 +8,7 @@ ghost use Rattle.store_repair.specs.Damage.{IsDetermined};
 ghost use Rattle.stores.specs.Stripes.{has_file};
 ghost use Rattle.store_repair.specs.Losses.{AreCovered, AreHeld};
 ghost use Rattle.lrc_code.specs.Sets.{is_in};
-ghost use Rattle.store_repair.specs.Opened.{AreOpened};
+ghost use Rattle.store_repair.specs.Opened.{AreFound, AreOpened};
 
 use crate::coverage::is_covered;
 use crate::damage::without;
@@ -51,6 +51,8 @@ pub(crate) fn open_fewest<S: Store>(
     ensures length { IfOk result (λ o. IfSome o (λ few. few.opened.length ≡ length)) }
     ensures opened { IfOk result (λ o. IfSome o (λ few. AreOpened S.Survivor.shown repair.now.code stripe.now.name.now length
         (S.files store.now) few.opened.set few.opened.fragments.items)) }
+    ensures found { IfOk result (λ o. IfSome o (λ few. AreFound repair.now.code stripe.now.files.found length
+        (is_in few.opened.set))) }
     ensures listed { IfOk result (λ o. IfSome o (λ few. (p : Place) → is_in few.listed p ≡ true
         → S.listed store.now stripe.now.name.now p)) }
 {
@@ -74,7 +76,9 @@ pub(crate) fn open_fewest<S: Store>(
 }
 
 /// A stripe's files, with nothing under the names of the places that aren't in a set.
-fn only(files: &StripeFiles, set: PlaceSet) -> StripeFiles {
+fn only(files: &StripeFiles, set: PlaceSet) -> StripeFiles
+    ensures { (len : ℕ) (p : Place) → has_file result.found len p ≡ true → has_file files.now.found len p ≡ true }
+{
     let mut own = *files;
     for place in &Place::ALL {
         if !set.has(*place) {

@@ -1,5 +1,6 @@
 //! How many bytes the fragments of a stripe have. Where its files don't agree their checks decide, and never their number.
 ghost use Rattle.std.specs.Prelude.{◌≡◌, ◌≢◌, ℕ, [], true, IfNone, IfOk, IfSome, MatchOption, OnOk};
+ghost use Rattle.store_repair.specs.Findings.{is_without_length};
 ghost use Rattle.store_repair.specs.Lengths.{HasLengthAt, HaveOneLength, IfKnown, IsConfirmed, IsStripeLength};
 ghost use Rattle.store_repair.specs.Scrubbed.{said_damaged};
 
@@ -99,6 +100,7 @@ pub(crate) fn length_or_note<S: Store>(
 ) -> Result<Option<usize>, AllocError>
     ensures said { OnOk result (said_damaged findings.new.items ≡ said_damaged findings.old.items) }
     ensures some { IfOk result (λ o. IfNone o (findings.new.items ≢ [])) }
+    ensures none { IfOk result (λ o. IfNone o (is_without_length findings.new.items ≡ true)) }
 {
     match stripe_length(alloc, store, code, stripe)? {
         StripeLength::Known(length) => return Ok(Some(length)),

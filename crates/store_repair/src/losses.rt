@@ -1,5 +1,5 @@
 //! The lost places of a stripe: which of them the survivors determine, and whether the survivors can be checked.
-ghost use Rattle.std.specs.Prelude.{◌≡◌, ◌<◌, ◌⊎◌, All, Contains, IfOk, length, true, false, not};
+ghost use Rattle.std.specs.Prelude.{◌≡◌, ◌<◌, ◌⊎◌, ℕ, All, Contains, IfOk, length, slice_index, true, false, not};
 ghost use Rattle.lrc_code.specs.declared.places.Place.{Place};
 ghost use Rattle.lrc_code.specs.Code.{has_place};
 ghost use Rattle.lrc_code.specs.Codes.{tables_of};
@@ -7,7 +7,7 @@ ghost use Rattle.lrc_code.specs.Reduction.{IsReduction};
 ghost use Rattle.lrc_code.specs.Sets.{is_in};
 ghost use Rattle.lrc_plan.specs.Planned.{ExtensionsDiffer};
 ghost use Rattle.store_repair.specs.Damage.{IsDetermined};
-ghost use Rattle.store_repair.specs.Losses.{AreChecked, CanContradict, HasAny, HasTerm, IsLostAmong};
+ghost use Rattle.store_repair.specs.Losses.{AreChecked, CanContradict, CannotContradict, HasAny, HasTerm, IsLostAmong};
 ghost use Rattle.store_repair.specs.Mended.{AreLost};
 ghost use Rattle.store_repair.specs.Opened.{AreApart};
 
@@ -122,9 +122,11 @@ pub(crate) fn determine(code: Code, survivors: PlaceSet, place: Place) -> bool
     is_determined(code, &reduced, survivors, place)
 }
 
-/// Whether survivors are more than a stripe is determined by, so that some contradict each other if one is damaged.
+/// Whether survivors are more than a stripe is determined by, so that some contradict each other if one is damaged. If they aren't, any
+/// bytes at their places are those of a stripe.
 pub fn have_checks(code: Code, survivors: PlaceSet) -> bool
-    ensures { result ≡ true → CanContradict code (is_in survivors) }
+    ensures yes { result ≡ true → CanContradict code (is_in survivors) }
+    ensures no { result ≡ false → CannotContradict code (is_in survivors) }
 {
     let rows = check_rows(code, survivors);
     for index in 0..4 {
@@ -144,7 +146,8 @@ pub(crate) fn are_checked(code: Code, survivors: PlaceSet, length: usize) -> boo
 
 /// Whether a row has a coefficient that isn't 00.
 fn has_term(row: &[Gf; 16]) -> bool
-    ensures { result ≡ true → HasTerm row.now }
+    ensures yes { result ≡ true → HasTerm row.now }
+    ensures no { result ≡ false → (k : ℕ) → k < 16 → slice_index row.now k ≡ 0 }
 {
     for index in 0..16 {
         if row[index].byte() != 0 {

@@ -1,10 +1,10 @@
 //! Making files for the lost fragments of a stripe, from all survivors that belong together: one that can't be read, or is damaged, is left
 //! out, and the others are tried again.
-ghost use Rattle.std.specs.Prelude.{◌≡◌, ◌≢◌, ◌&&◌, ℕ, List, [], not, All, Contains, IfNone, IfOk, IfSome, OnOk, length, true};
+ghost use Rattle.std.specs.Prelude.{◌≡◌, ◌≢◌, ◌&&◌, ℕ, List, [], not, All, Contains, IfNone, IfOk, IfSome, OnOk, false, length, true};
 ghost use Rattle.lrc_code.specs.declared.places.Place.{Place};
 ghost use Rattle.lrc_code.specs.Code.{has_place};
 ghost use Rattle.lrc_code.specs.Codes.{tables_of};
-ghost use Rattle.store_repair.specs.Findings.{named};
+ghost use Rattle.store_repair.specs.Findings.{NamesStay, named};
 ghost use Rattle.store_repair.specs.declared.settings.Reads.TheVariants.{All as ReadsAll, Few as ReadsFew};
 ghost use Rattle.stores.specs.Stripes.{has_file};
 ghost use Rattle.store_repair.specs.Losses.{AreChecked};
@@ -166,6 +166,8 @@ pub(crate) fn to_be_rebuilt<F>(repair: &Repair, stripe: &Stripe<'_>, opened: &Op
         → is_in result p ≡ (has_place (tables_of repair.now.code) p && not (is_in opened.now.set p)) }
     ensures few { repair.now.reads ≡ ReadsFew → (p : Place)
         → is_in result p ≡ (has_place (tables_of repair.now.code) p && not (has_file stripe.now.files.found opened.now.length p)) }
+    ensures absent { (p : Place) → has_place (tables_of repair.now.code) p ≡ true → is_in opened.now.set p ≡ false
+        → has_file stripe.now.files.found opened.now.length p ≡ false → is_in result p ≡ true }
 {
     let code = repair.code;
     match repair.reads {
@@ -178,7 +180,8 @@ pub(crate) fn to_be_rebuilt<F>(repair: &Repair, stripe: &Stripe<'_>, opened: &Op
 
 /// Notes the places whose fragments the survivors don't determine.
 pub(crate) fn note_all(places: &[Place], findings: &mut Vec<Finding>) -> Result<(), AllocError>
-    ensures { OnOk result (All (Contains (named findings.new.items)) places.now) }
+    ensures named { OnOk result (All (Contains (named findings.new.items)) places.now) }
+    ensures stay { OnOk result (NamesStay findings.old.items findings.new.items) }
 {
     for place in places {
         note(findings, Some(*place), Reason::Several)?;

@@ -1,12 +1,16 @@
 //! The surviving fragments of a stripe, open for reading: one that can't be opened, or that the store refuses, is noted and left out.
-ghost use Rattle.std.specs.Prelude.{◌≡◌, ◌&&◌, IfOk, OnOk, None, length, set, vec_len};
+ghost use Rattle.std.specs.Prelude.{◌≡◌, ◌&&◌, Contains, IfNone, IfOk, IfSome, OnOk, None, length, set, true, vec_len};
+ghost use Rattle.lrc_code.specs.declared.places.Place.{Place};
 ghost use Rattle.lrc_code.specs.Code.{has_place};
 ghost use Rattle.lrc_code.specs.Codes.{tables_of};
 ghost use Rattle.lrc_code.specs.Places.{index_of};
 ghost use Rattle.lrc_code.specs.Sets.{is_in};
 ghost use Rattle.store_repair.specs.Damage.{all_but};
-ghost use Rattle.store_repair.specs.Opened.{AreOpened, IsOpenedAt};
+ghost use Rattle.store_repair.specs.Findings.{NamesStay, named};
+ghost use Rattle.store_repair.specs.Opened.{AreFound, AreOpened, IsOpenedAt};
+ghost use Rattle.store_repair.specs.Repaired.{IsOpenedOrNamed};
 ghost use Rattle.store_repair.specs.Scrubbed.{said_damaged};
+ghost use Rattle.stores.specs.Stripes.{has_file};
 
 use crate::damage::without;
 use crate::outcomes::{Finding, note_unread};
@@ -39,6 +43,10 @@ pub fn open_survivors<S: Store>(
     ensures opened { IfOk result (λ opened. AreOpened S.Survivor.shown code stripe.now.name.now length (S.files store.now) opened.set
         opened.fragments.items) }
     ensures said { OnOk result (said_damaged findings.new.items ≡ said_damaged findings.old.items) }
+    ensures stay { OnOk result (NamesStay findings.old.items findings.new.items) }
+    ensures named { IfOk result (λ opened. (p : Place) → IsOpenedOrNamed code stripe.now.files.found length (is_in opened.set)
+        findings.new.items p) }
+    ensures found { IfOk result (λ opened. AreFound code stripe.now.files.found length (is_in opened.set)) }
 {
     let mut opened = open_all(alloc, store, code, stripe, length, findings)?;
     let mut refused = store.refused(alloc, stripe.name, length, opened.fragments.as_slice())?;
@@ -75,6 +83,10 @@ pub(crate) fn open_all<S: Store>(
     ensures opened { IfOk result (λ opened. AreOpened S.Survivor.shown code stripe.now.name.now length (S.files store.now) opened.set
         opened.fragments.items) }
     ensures said { OnOk result (said_damaged findings.new.items ≡ said_damaged findings.old.items) }
+    ensures stay { OnOk result (NamesStay findings.old.items findings.new.items) }
+    ensures named { IfOk result (λ opened. (p : Place) → IsOpenedOrNamed code stripe.now.files.found length (is_in opened.set)
+        findings.new.items p) }
+    ensures found { IfOk result (λ opened. AreFound code stripe.now.files.found length (is_in opened.set)) }
 {
     let mut set = PlaceSet::empty();
     let mut fragments = Vec::with_capacity(alloc, 16)?;
@@ -104,6 +116,11 @@ fn open_at<S: Store>(
 ) -> Result<Option<S::Survivor>, AllocError>
     ensures opened { IfOk result (IsOpenedAt S.Survivor.shown code stripe.now.name.now length (S.files store.now) place) }
     ensures said { OnOk result (said_damaged findings.new.items ≡ said_damaged findings.old.items) }
+    ensures stay { OnOk result (NamesStay findings.old.items findings.new.items) }
+    ensures named { IfOk result (λ o. IfNone o (has_place (tables_of code) place ≡ true
+        → has_file stripe.now.files.found length place ≡ true → Contains (named findings.new.items) place)) }
+    ensures found { IfOk result (λ o. IfSome o (λ _. (has_place (tables_of code) place
+        && has_file stripe.now.files.found length place) ≡ true)) }
 {
     if !code.has(place) {
         return Ok(None);

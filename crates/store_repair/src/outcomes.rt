@@ -2,7 +2,8 @@
 ghost use Rattle.std.specs.Prelude.{◌≡◌, ◌≢◌, ◌++◌, ◌||◌, ◌↔◌, [], true, false, Contains, IsTrue, Option, IfOk, OnOk};
 ghost use Rattle.lrc_code.specs.declared.places.Place.{Place};
 ghost use Rattle.lrc_code.specs.Sets.{is_in};
-ghost use Rattle.store_repair.specs.Findings.{IsMendedBy, differing_by, is_unsettled, named, named_by, said_differing, says_unsettled};
+ghost use Rattle.store_repair.specs.Findings.{IsMendedBy, differing_by, is_unsettled, is_without_length, named, named_by};
+ghost use Rattle.store_repair.specs.Findings.{said_differing, says_no_length, says_unsettled};
 ghost use Rattle.store_repair.specs.Losses.{IsCovered};
 ghost use Rattle.store_repair.specs.Reasons.{IsReasonOf, is_damage, is_of_device};
 ghost use Rattle.store_repair.specs.Scrubbed.{damaged_by, said_damaged};
@@ -291,6 +292,8 @@ pub(crate) fn note(
     ensures named { OnOk result (named findings.new.items ≡ named findings.old.items ++ named_by place) }
     ensures some { OnOk result (findings.new.items ≢ []) }
     ensures unsettled { OnOk result (is_unsettled findings.new.items ≡ (is_unsettled findings.old.items || says_unsettled reason)) }
+    ensures length { OnOk result (is_without_length findings.new.items
+        ≡ (is_without_length findings.old.items || says_no_length reason)) }
 {
     findings.push(Finding { place, reason })?;
     Ok(())
@@ -304,6 +307,7 @@ pub(crate) fn note_no_survivor(
 ) -> Result<(), AllocError>
     ensures said { OnOk result (said_damaged findings.new.items ≡ said_damaged findings.old.items) }
     ensures some { OnOk result (findings.new.items ≢ []) }
+    ensures length { OnOk result (is_without_length findings.new.items ≡ true) }
 {
     note(findings, None, Reason::NoSurvivor)?;
     note_unknown(code, stripe, findings)
@@ -317,6 +321,7 @@ pub(crate) fn note_unknown(
 ) -> Result<(), AllocError>
     ensures said { OnOk result (said_damaged findings.new.items ≡ said_damaged findings.old.items) }
     ensures some { OnOk result (findings.old.items ≢ [] → findings.new.items ≢ []) }
+    ensures length { OnOk result (is_without_length findings.old.items ≡ true → is_without_length findings.new.items ≡ true) }
 {
     for place in code.places() {
         let found = stripe.files.at(*place);

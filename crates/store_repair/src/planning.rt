@@ -1,13 +1,15 @@
 //! What a repair of a stripe would do.
-ghost use Rattle.std.specs.Prelude.{◌≡◌, All, IfOk, IfSome, true};
+ghost use Rattle.std.specs.Prelude.{◌≡◌, All, IfOk, IfSome, false, true};
 ghost use Rattle.lrc_code.specs.declared.places.Place.{Place};
 ghost use Rattle.lrc_code.specs.Sets.{is_in};
 ghost use Rattle.store_repair.specs.Damage.{IsDetermined};
-ghost use Rattle.store_repair.specs.Losses.{AreChecked, HasAny};
+ghost use Rattle.store_repair.specs.Findings.{NamesStay};
+ghost use Rattle.store_repair.specs.Losses.{AreChecked};
 ghost use Rattle.store_repair.specs.Mended.{AreLost};
-ghost use Rattle.store_repair.specs.Opened.{AreApart, IsThereWith};
-ghost use Rattle.store_repair.specs.Repaired.{IsAccountedFor};
+ghost use Rattle.store_repair.specs.Opened.{AreApart, AreFound, IsThereWith};
+ghost use Rattle.store_repair.specs.Repaired.{AreAccountedFor, AreLostAccountedFor, AreOpenedOrNamed, IsAccountedFor};
 ghost use Rattle.store_repair.specs.declared.settings.Reads.TheVariants.{All as ReadsAll};
+ghost use Rattle.stores.specs.Stripes.{has_file};
 
 use crate::fewest::open_fewest;
 use crate::lengths::length_or_note;
@@ -21,8 +23,9 @@ use stores::{Store, Stripe};
 
 /// What a repair of a stripe would do: the places whose fragments it would rebuild, if the survivors that can be opened don't contradict
 /// each other, and what it couldn't: the survivors are those that it would open, which determine each of these places, and each other place
-/// of the code is named by a finding. No fragment is read, but where the files' lengths differ, and where the store holds opened survivors
-/// to digests that it knows. Whether what is under a name stays, as `repair_stripe` would find, isn't looked at.
+/// of the code is named by a finding, unless one says that the stripe's length isn't known; if few survivors are read, each other place
+/// without a file of this length. No fragment is read, but where the files' lengths differ, and where the store holds opened survivors to
+/// digests that it knows. Whether what is under a name stays, as `repair_stripe` would find, isn't looked at.
 pub fn plan_stripe<S: Store>(
     alloc: Global,
     store: &S,
@@ -32,10 +35,15 @@ pub fn plan_stripe<S: Store>(
     ensures lost { IfOk result (λ o. AreLost repair.now.code (is_in o.survivors) o.rebuilt.items) }
     ensures apart { IfOk result (λ o. AreApart o.rebuilt.items) }
     ensures determined { IfOk result (λ o. All (IsDetermined repair.now.code (is_in o.survivors)) o.rebuilt.items) }
-    ensures all { repair.now.reads ≡ ReadsAll → IfOk result (λ o. HasAny (is_in o.survivors) → (p : Place)
-        → IsAccountedFor repair.now.code (is_in o.survivors) o.rebuilt.items o.findings.items p) }
+    ensures all { repair.now.reads ≡ ReadsAll → IfOk result (λ o.
+        AreAccountedFor repair.now.code (is_in o.survivors) o.rebuilt.items o.findings.items) }
+    ensures absent { IfOk result (λ o. AreLostAccountedFor repair.now.code (is_in o.survivors) stripe.now.files.found o.length
+        o.rebuilt.items o.findings.items) }
+    ensures unopened { repair.now.reads ≡ ReadsAll → IfOk result (λ o. AreOpenedOrNamed repair.now.code stripe.now.files.found o.length
+        (is_in o.survivors) o.findings.items) }
     ensures opened { IfOk result (λ o. IfSome (S.files store.now) (λ files. (p : Place) → is_in o.survivors p ≡ true
         → IsThereWith stripe.now.name.now o.length files p)) }
+    ensures found { IfOk result (λ o. AreFound repair.now.code stripe.now.files.found o.length (is_in o.survivors)) }
     ensures checked { IfOk result (λ o. o.is_checked ≡ true → AreChecked repair.now.code (is_in o.survivors) o.length) }
 {
     let code = repair.code;
@@ -74,8 +82,11 @@ fn planned<F>(
     ensures lost { IfOk result (λ o. AreLost repair.now.code (is_in o.survivors) o.rebuilt.items) }
     ensures apart { IfOk result (λ o. AreApart o.rebuilt.items) }
     ensures determined { IfOk result (λ o. All (IsDetermined repair.now.code (is_in o.survivors)) o.rebuilt.items) }
-    ensures all { repair.now.reads ≡ ReadsAll → IfOk result (λ o. HasAny (is_in o.survivors) → (p : Place)
+    ensures all { repair.now.reads ≡ ReadsAll → IfOk result (λ o. (p : Place)
         → IsAccountedFor repair.now.code (is_in o.survivors) o.rebuilt.items o.findings.items p) }
+    ensures absent { IfOk result (λ o. (p : Place) → has_file stripe.now.files.found o.length p ≡ false
+        → IsAccountedFor repair.now.code (is_in o.survivors) o.rebuilt.items o.findings.items p) }
+    ensures stay { IfOk result (λ o. NamesStay findings.items o.findings.items) }
     ensures checked { IfOk result (λ o. o.is_checked ≡ true → AreChecked repair.now.code (is_in o.survivors) o.length) }
 {
     let code = repair.code;

@@ -1,13 +1,19 @@
 //! Scrubbing a stripe of a store: whether its fragments belong together, and which one is damaged where that can be told.
-ghost use Rattle.std.specs.Prelude.{◌≡◌, ◌≢◌, ◌++◌, ℕ, List, [], length, All, IfOk, IfSome, OnOk, true};
+ghost use Rattle.std.specs.Prelude.{◌≡◌, ◌≢◌, ◌++◌, ℕ, List, [], length, All, Contains, IfOk, IfSome, OnOk, false, true};
+ghost use Rattle.lrc_code.specs.declared.places.Place.{Place};
+ghost use Rattle.lrc_code.specs.Code.{has_place};
 ghost use Rattle.lrc_code.specs.Codes.{tables_of};
 ghost use Rattle.lrc_code.specs.Sets.{is_in};
 ghost use Rattle.lrc_plan.specs.Stripes.{AreWhole, IsPossible, at_place};
 ghost use Rattle.store_repair.specs.declared.damage.Damage.TheVariants.{Nowhere};
 ghost use Rattle.store_repair.specs.Damage.{IsLocated};
-ghost use Rattle.store_repair.specs.Losses.{CanContradict};
+ghost use Rattle.store_repair.specs.Findings.{NamesStay, named};
+ghost use Rattle.store_repair.specs.Losses.{CanContradict, CannotContradict};
+ghost use Rattle.store_repair.specs.Opened.{AreFound, IsThereWith};
+ghost use Rattle.store_repair.specs.Repaired.{AreAccountedFor, IsWhole};
 ghost use Rattle.store_repair.specs.Scrubbed.{AreOfOneStripe, IsDamagedFragment, damaged_at, said_damaged};
 ghost use Rattle.stores.specs.Shown.{AreShown};
+ghost use Rattle.stores.specs.Stripes.{has_file};
 
 use crate::damage::{Damage, find_damaged};
 use crate::lengths::length_or_note;
@@ -19,8 +25,9 @@ use lrc_code::{Code, Place};
 use std::alloc::{AllocError, Global};
 use stores::{Fragment, Store, Stripe};
 
-/// Tests a stripe. A fragment is said to be damaged only where it is so whatever at most two of those that were opened hold; and where
-/// nothing is said, and the stripe is checked, those that were opened are of one stripe of the code.
+/// Tests a stripe. Each place of the code is named by a finding that has no file of the stripe's length, or whose fragment can't be opened,
+/// unless a finding says that this length isn't known. A fragment is said to be damaged only where it is so whatever at most two of those
+/// that were opened hold; and where nothing is said, the fragments at all places of the code are of one stripe.
 pub fn scrub_stripe<S: Store>(
     alloc: Global,
     store: &S,
@@ -32,6 +39,12 @@ pub fn scrub_stripe<S: Store>(
     ensures silent { IfOk result (λ o. o.findings.items ≡ [] → o.is_checked ≡ true → IfSome (S.files store.now)
         (AreOfOneStripe code (is_in o.survivors) o.length stripe.now.name.now)) }
     ensures checked { IfOk result (λ o. o.is_checked ≡ true → CanContradict code (is_in o.survivors)) }
+    ensures unchecked { IfOk result (λ o. o.is_checked ≡ false → CannotContradict code (is_in o.survivors)) }
+    ensures opened { IfOk result (λ o. IfSome (S.files store.now) (λ files. (p : Place) → is_in o.survivors p ≡ true
+        → IsThereWith stripe.now.name.now o.length files p)) }
+    ensures found { IfOk result (λ o. AreFound code stripe.now.files.found o.length (is_in o.survivors)) }
+    ensures all { IfOk result (λ o. AreAccountedFor code (is_in o.survivors) [] o.findings.items) }
+    ensures whole { IfOk result (λ o. o.findings.items ≡ [] → IsWhole code o.length stripe.now.name.now (S.files store.now)) }
 {
     let mut findings = Vec::new(alloc);
     let known = length_or_note(alloc, store, code, stripe, &mut findings)?;
@@ -65,10 +78,13 @@ fn note_lost(
     length: usize,
     findings: &mut Vec<Finding>,
 ) -> Result<(), AllocError>
-    ensures { OnOk result (said_damaged findings.new.items ≡ said_damaged findings.old.items) }
+    ensures said { OnOk result (said_damaged findings.new.items ≡ said_damaged findings.old.items) }
+    ensures lost { OnOk result ((p : Place) → has_place (tables_of code) p ≡ true → has_file stripe.now.files.found length p ≡ false
+        → Contains (named findings.new.items) p) }
 {
-    for place in stripe.files.lost(alloc, code, length as u64)? {
-        note(findings, Some(place), Reason::of(stripe.files.at(place)))?;
+    let lost = stripe.files.lost(alloc, code, length as u64)?;
+    for place in &lost {
+        note(findings, Some(*place), Reason::of(stripe.files.at(*place)))?;
     }
     Ok(())
 }
@@ -89,6 +105,7 @@ fn test<F: Fragment>(
         → AreWhole survivors.now.code (is_in survivors.now.set) at survivors.now.length → is_checked ≡ true
         → OnOk result (findings.new.items ≡ [] → IsPossible (tables_of survivors.now.code) (is_in survivors.now.set) (at_place at)
         survivors.now.length) }
+    ensures stay { OnOk result (NamesStay findings.old.items findings.new.items) }
 {
     if !is_checked {
         return Ok(());
@@ -103,6 +120,7 @@ fn test<F: Fragment>(
 fn note_damage(damage: Damage, findings: &mut Vec<Finding>) -> Result<(), AllocError>
     ensures said { OnOk result (said_damaged findings.new.items ≡ said_damaged findings.old.items ++ damaged_at damage) }
     ensures silent { OnOk result (findings.new.items ≡ [] → damage ≡ Nowhere) }
+    ensures stay { OnOk result (NamesStay findings.old.items findings.new.items) }
 {
     match damage {
         Damage::Nowhere => Ok(()),
@@ -116,6 +134,7 @@ fn note_damage(damage: Damage, findings: &mut Vec<Finding>) -> Result<(), AllocE
 fn note_fault(fault: MendFault, findings: &mut Vec<Finding>) -> Result<(), AllocError>
     ensures said { OnOk result (said_damaged findings.new.items ≡ said_damaged findings.old.items) }
     ensures some { OnOk result (findings.new.items ≢ []) }
+    ensures stay { OnOk result (NamesStay findings.old.items findings.new.items) }
 {
     match fault {
         MendFault::OutOfMemory => Err(AllocError),

@@ -12,5 +12,5 @@ loop-place-preserved c =
 pub returns : goal.returns
 returns c = λ on. (
   λ k d lt. c.loop-place.invariant k d (let end = c.loop-place-test.false in omega (arith, lt, end)),
-  c.have_checks.ensures on,
+  c.have_checks.ensures.yes on,
 )

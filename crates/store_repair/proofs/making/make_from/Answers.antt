@@ -44,7 +44,7 @@ returns-in_ok-note_all-in-Ok-true-clause-all g c = λ reads p has out.
     (λ _. Contains lost.determined.items p ⊎ Contains new p) [
       | inl is ↦ inl is
       | inr is ↦ inr (All-contains (Contains new) lost.several.items p
-          (subst (All (Contains new)) c.as_slice-in-Ok-true.ensures.value c.in_ok-note_all-in-Ok-true.ensures) is)
+          (subst (All (Contains new)) c.as_slice-in-Ok-true.ensures.value c.in_ok-note_all-in-Ok-true.ensures.named) is)
     ]
 
 pub mend-requires-clause-lost : goal.mend-requires-clause-lost

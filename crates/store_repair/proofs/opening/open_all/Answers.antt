@@ -1,9 +1,11 @@
-use Rattle.std.proofs.Common.{◌∙◌, ◌≡◌, sym, ap, subst, arith, cond, refl}
+use Rattle.std.proofs.Common.{◌∙◌, ◌≡◌, sym, ap, subst, arith, cond, refl, vec_len}
 use Rattle.std.specs.Prelude.{◌||◌, is_some}
 use Rattle.lrc_code.specs.declared.places.Place.{Place}
 use Rattle.lrc_code.specs.Places.{same_place}
 use Rattle.lrc_code.specs.Sets.{is_in}
 use Rattle.store_repair.specs.Opened.{AreOpened}
+use Rattle.lrc_code.proofs.PlaceSums.{index_of-lt}
+use Rattle.store_repair.proofs.AccountedLemmas.{found_next, opened_next}
 use Rattle.store_repair.proofs.OpenedLemmas.{opened_more}
 use Rattle.store_repair.proofs.opening.open_all.Goals as goal
 use Rattle.store_repair.proofs.opening.open_all.Goals.{then-is_some, else-is_some}
@@ -22,6 +24,13 @@ places-preserved g c =
     record {
       bound = omega (arith, c.places-test.true, c.in_ok-push.ensures.len);
       said = c.in_ok-fragment.ensures.said ∙ c.places.invariant.said;
+      stay = λ q is. c.in_ok-fragment.ensures.stay q (c.places.invariant.stay q is);
+      named = λ q lt. opened_next c.args.code c.args.stripe.now.files.found c.args.length set c.if-is_some.set x
+          c.places.findings.items c.open_at.new.findings.items (vec_len c.places.fragments) p
+          (c.nth_place-place.ensures ∙ c.len-in-places.ensures) step c.in_ok-fragment.ensures.stay c.in_ok-fragment.ensures.named
+          c.places.invariant.named q (let more = c.in_ok-push.ensures.len in omega (arith, lt, more));
+      found = found_next c.args.code c.args.stripe.now.files.found c.args.length set c.if-is_some.set x p step
+          c.in_ok-fragment.ensures.found c.places.invariant.found;
       opened = subst (AreOpened g.S.Survivor.Fragment.shown c.args.code c.args.stripe.now.name.now c.args.length
           (g.S.Store.files c.args.store.now) c.if-is_some.set) (sym c.in_ok-push.ensures.items)
           (opened_more g.S.Survivor.Fragment.shown c.args.code c.args.stripe.now.name.now c.args.length
@@ -29,3 +38,7 @@ places-preserved g c =
           (c.nth_place-place.ensures ∙ c.len-in-places.ensures ∙ c.places.fragments.ok.0) c.in_ok-fragment.ensures.opened step
           c.places.invariant.opened);
     }
+
+pub returns-clause-named : goal.returns-clause-named
+returns-clause-named g c = λ p.
+    c.places.invariant.named p (let lt = index_of-lt p in let end = c.places-test.false in omega (arith, lt, end))

@@ -2,6 +2,9 @@ use Rattle.std.proofs.Common.{◌∙◌, ap, length, subst, sym}
 use Rattle.std.proofs.lemmas.List.{length-set}
 use Rattle.lrc_code.specs.Places.{index_of}
 use Rattle.store_repair.specs.Opened.{AreOpened}
+use Rattle.store_repair.specs.Findings.{named}
+use Rattle.store_repair.proofs.AccountedLemmas.{found_but, opened_but}
+use Rattle.store_repair.proofs.NotedLemmas.{named_still}
 use Rattle.store_repair.proofs.RepairLemmas.{opened_less}
 use Rattle.store_repair.proofs.opening.open_survivors.Goals as goal
 
@@ -18,6 +21,12 @@ refused-preserved g c =
       sixteen = ap length c.leave_out.ensures.fragments ∙ length-set old.fragments.items (index_of c.in-Some.field-0.place) _ ∙ so.sixteen;
       long = c.leave_out.ensures.length ∙ so.long;
       said = c.in_ok-note_unread.ensures.said ∙ so.said;
+      stay = λ p is. named_still (named c.refused.findings.items) (named c.note_unread.new.findings.items) _ p
+          c.in_ok-note_unread.ensures.named (so.stay p is);
+      named = opened_but code c.args.stripe.now.files.found c.args.length old.set new.set c.refused.findings.items
+          c.note_unread.new.findings.items c.in-Some.field-0.place c.leave_out.ensures.set c.in_ok-note_unread.ensures.named so.named;
+      found = found_but code c.args.stripe.now.files.found c.args.length old.set new.set c.in-Some.field-0.place c.leave_out.ensures.set
+          so.found;
       opened = subst (AreOpened shown code stripe c.args.length files new.set) (sym c.leave_out.ensures.fragments)
           (opened_less shown code stripe c.args.length files old.set new.set old.fragments.items c.in-Some.field-0.place
           so.sixteen c.leave_out.ensures.set so.opened);

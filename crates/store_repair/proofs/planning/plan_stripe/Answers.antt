@@ -1,7 +1,12 @@
-use Rattle.std.proofs.Common.{◌≡◌, IfSome, arith, refl, subst, vec_len}
-use Rattle.store_repair.specs.Opened.{AreOpened}
+use Rattle.std.proofs.Common.{◌≡◌, ◌∙◌, IfSome, ap, arith, false, inl, inr, refl, subst, true, vec_len}
+use Rattle.std.specs.Prelude.{IfNone}
+use Rattle.lrc_code.specs.Sets.{is_in}
+use Rattle.stores.specs.Stripes.{has_file}
+use Rattle.store_repair.specs.Findings.{is_without_length}
+use Rattle.store_repair.specs.Opened.{AreFound, AreOpened}
 use Rattle.store_repair.proofs.OpenedLemmas.{are_there}
 use Rattle.store_repair.proofs.planning.plan_stripe.Goals as goal
+use Rattle.store_repair.proofs.planning.plan_stripe.Goals.{in-All, in_default-matches}
 
 pub returns-clause-opened : goal.returns-clause-opened
 returns-clause-opened g c =
@@ -16,7 +21,49 @@ returns-clause-opened g c =
     c.in_ok-opened.ensures.opened)
 
 pub returns-clause-all : goal.returns-clause-all
-returns-clause-all g c = λ reads. c.in_ok-plan-2.ensures.all refl
+returns-clause-all g c = λ reads. inl (c.in_ok-plan-2.ensures.all refl)
+
+pub returns-clause-absent : goal.returns-clause-absent
+returns-clause-absent g c = inl c.in_ok-plan-2.ensures.absent
+
+pub returns-clause-unopened : goal.returns-clause-unopened
+returns-clause-unopened g c = λ reads. inl (λ p has is out.
+    c.in_ok-plan-2.ensures.stay p (c.in_ok-opened.ensures.named p has
+    (subst (λ len. has_file c.args.stripe.now.files.found len p ≡ true) (c.in_ok-plan-2.ensures.length ∙ c.in_ok-opened.ensures.length) is)
+    (subst (λ set. is_in set p ≡ false) c.in_ok-plan-2.ensures.survivors out)))
+
+pub returns-in-Some-2-clause-all : goal.returns-in-Some-2-clause-all
+returns-in-Some-2-clause-all g c = λ reads. inl (c.in_ok-plan.ensures.all reads)
+
+pub returns-in-Some-2-clause-absent : goal.returns-in-Some-2-clause-absent
+returns-in-Some-2-clause-absent g c = inl c.in_ok-plan.ensures.absent
+
+pub returns-in-Some-2-clause-unopened : goal.returns-in-Some-2-clause-unopened
+returns-in-Some-2-clause-unopened g c = λ reads. absurd (elim c.match-matches.branch as (λ _. ⊥) [
+  | in-All w ↦ (let on = w.matches-is in let off = c.if-not-matches.true in cc)
+  | in_default-matches w ↦ w.in_default-matches.not-All reads
+])
+
+pub returns-in_default-clause-all : goal.returns-in_default-clause-all
+returns-in_default-clause-all g c = λ reads. inr (
+  ap is_without_length c.of.ensures.findings
+      ∙ subst (λ o. IfNone o (is_without_length c.length_or_note.new.findings.items ≡ true)) c.in_default.is c.in_ok-known.ensures.none,
+  c.of.ensures.survivors,
+)
+
+pub returns-in_default-clause-absent : goal.returns-in_default-clause-absent
+returns-in_default-clause-absent g c = inr (
+  ap is_without_length c.of.ensures.findings
+      ∙ subst (λ o. IfNone o (is_without_length c.length_or_note.new.findings.items ≡ true)) c.in_default.is c.in_ok-known.ensures.none,
+  c.of.ensures.survivors,
+)
+
+pub returns-in_default-clause-unopened : goal.returns-in_default-clause-unopened
+returns-in_default-clause-unopened g c = λ reads. inr (
+  ap is_without_length c.of.ensures.findings
+      ∙ subst (λ o. IfNone o (is_without_length c.length_or_note.new.findings.items ≡ true)) c.in_default.is c.in_ok-known.ensures.none,
+  c.of.ensures.survivors,
+)
 
 pub returns-in-Some-2-clause-opened : goal.returns-in-Some-2-clause-opened
 returns-in-Some-2-clause-opened g c =
@@ -32,3 +79,15 @@ returns-in-Some-2-clause-opened g c =
     (are_there shown code name len files opened.set opened.fragments.items (omega (arith, sixteen))
     (subst (λ o. IfSome o (λ few. AreOpened shown code name len files few.opened.set few.opened.fragments.items)) c.in-Some-2.is
     c.in_ok-few.ensures.opened))
+
+pub returns-clause-found : goal.returns-clause-found
+returns-clause-found g c =
+    rw (c.in_ok-plan-2.ensures.survivors, c.in_ok-plan-2.ensures.length, c.in_ok-opened.ensures.length) c.in_ok-opened.ensures.found
+
+pub returns-in-Some-2-clause-found : goal.returns-in-Some-2-clause-found
+returns-in-Some-2-clause-found g c =
+    let len = c.in-Some.length in
+    let long = subst (λ o. IfSome o (λ few. few.opened.length ≡ len)) c.in-Some-2.is c.in_ok-few.ensures.length in
+    rw (c.in_ok-plan.ensures.survivors, c.in_ok-plan.ensures.length, long)
+    (subst (λ o. IfSome o (λ few. AreFound c.args.repair.now.code c.args.stripe.now.files.found len (is_in few.opened.set))) c.in-Some-2.is
+    c.in_ok-few.ensures.found)

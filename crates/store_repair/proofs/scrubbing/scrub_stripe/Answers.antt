@@ -1,7 +1,16 @@
-use Rattle.std.proofs.Common.{◌≡◌, ◌∙◌, ap, arith, length, subst, sym}
+use Rattle.std.proofs.Common.{◌≡◌, ◌≢◌, ◌∙◌, [], ap, arith, inl, inr, length, subst, sym, true}
+use Rattle.std.specs.Prelude.{IfNone}
+use Rattle.std.proofs.lemmas.Bool.{cases_Bool}
+use Rattle.lrc_code.specs.Codes.{tables_of}
 use Rattle.lrc_code.specs.Sets.{is_in}
+use Rattle.lrc_plan.specs.Stripes.{at_place, IsPossible}
+use Rattle.store_repair.specs.Findings.{is_without_length}
 use Rattle.store_repair.specs.Scrubbed.{IsDamagedFragment, said_damaged}
 use Rattle.stores.specs.Shown.{AreShown}
+use Rattle.store_repair.proofs.AccountedLemmas.{all_accounted, all_survive, whole_of_all}
+use Rattle.store_repair.proofs.CheckLemmas.{fits_none, unchecked_possible}
+use Rattle.store_repair.proofs.OpenedLemmas.{are_there}
+use Rattle.store_repair.proofs.WindowLemmas.{shown_length}
 use Rattle.store_repair.proofs.ScrubLemmas.{damaged_fragments, none_said, of_one_stripe}
 use Rattle.store_repair.proofs.scrubbing.scrub_stripe.Goals as goal
 
@@ -23,7 +32,8 @@ returns-clause-damaged g c =
     damaged_fragments shown c.args.code c.args.stripe.now.name.now c.in-Some.length opened.set opened.fragments.items sixteen
     (g.S.Store.files c.args.store.now) c.in_ok-opened.ensures.opened (said_damaged c.test.new.findings.items)
     (λ xs are whole. c.in_ok-test.ensures.damaged xs (subst (λ fs. AreShown shown fs xs) (sym c.as_slice.ensures.value) are) whole
-    (c.in_ok-opened.ensures.said ∙ c.in_ok-note_lost.ensures ∙ c.in_ok-known.ensures.said ∙ ap said_damaged c.new-findings.ensures.items))
+    (c.in_ok-opened.ensures.said ∙ c.in_ok-note_lost.ensures.said ∙ c.in_ok-known.ensures.said
+    ∙ ap said_damaged c.new-findings.ensures.items))
 
 pub returns-clause-silent : goal.returns-clause-silent
 returns-clause-silent g c = λ none checked.
@@ -34,3 +44,49 @@ returns-clause-silent g c = λ none checked.
     (g.S.Store.files c.args.store.now) c.in_ok-opened.ensures.opened
     (λ xs are whole.
     c.in_ok-test.ensures.silent xs (subst (λ fs. AreShown shown fs xs) (sym c.as_slice.ensures.value) are) whole checked none)
+
+pub returns-in_default-clause-all : goal.returns-in_default-clause-all
+returns-in_default-clause-all g c = inr (
+  ap is_without_length c.of.ensures.findings
+      ∙ subst (λ o. IfNone o (is_without_length c.length_or_note.new.findings.items ≡ true)) c.in_default.is c.in_ok-known.ensures.none,
+  c.of.ensures.survivors,
+)
+
+pub returns-in_default-clause-whole : goal.returns-in_default-clause-whole
+returns-in_default-clause-whole g c = λ none. absurd (
+    subst (λ o. IfNone o (c.length_or_note.new.findings.items ≢ [])) c.in_default.is c.in_ok-known.ensures.some
+    (sym c.of.ensures.findings ∙ none))
+
+pub returns-clause-opened : goal.returns-clause-opened
+returns-clause-opened g c =
+    let opened = c.in_ok-opened.opened in
+    are_there g.S.Survivor.Fragment.shown c.args.code c.args.stripe.now.name.now c.in-Some.length (g.S.Store.files c.args.store.now)
+    opened.set opened.fragments.items (let sixteen = c.in_ok-opened.ensures.sixteen in omega (arith, sixteen)) c.in_ok-opened.ensures.opened
+
+pub returns-clause-all : goal.returns-clause-all
+returns-clause-all g c = inl (all_accounted c.args.code (is_in c.in_ok-opened.opened.set) c.args.stripe.now.files.found c.in-Some.length
+    c.note_lost.new.findings.items c.open_survivors.new.findings.items c.test.new.findings.items c.in_ok-note_lost.ensures.lost
+    c.in_ok-opened.ensures.stay c.in_ok-opened.ensures.named c.in_ok-test.ensures.stay)
+
+pub returns-clause-whole : goal.returns-clause-whole
+returns-clause-whole g c = λ none.
+    let shown = g.S.Survivor.Fragment.shown in
+    let code = c.args.code in
+    let name = c.args.stripe.now.name.now in
+    let len = c.in-Some.length in
+    let opened = c.in_ok-opened.opened in
+    let set = opened.set in
+    let files = g.S.Store.files c.args.store.now in
+    let sixteen : length opened.fragments.items ≡ 16 = omega (arith, c.in_ok-opened.ensures.sixteen) in
+    whole_of_all code (is_in set) len name files
+    (all_survive code (is_in set) c.test.new.findings.items (returns-clause-all g c) none)
+    (of_one_stripe shown code name len set opened.fragments.items sixteen files c.in_ok-opened.ensures.opened
+    (λ xs are whole. elim (cases_Bool c.have_checks-is_checked.result) as (λ _. IsPossible (tables_of code) (is_in set) (at_place xs) len) [
+      | inl on ↦ c.in_ok-test.ensures.silent xs (subst (λ fs. AreShown shown fs xs) (sym c.as_slice.ensures.value) are) whole on none
+      | inr off ↦ unchecked_possible code (is_in set) xs len whole are.bytes
+          (sym (shown_length shown opened.fragments.items xs are) ∙ sixteen)
+          (c.have_checks-is_checked.ensures.no off)
+    ]))
+
+pub returns-in_default-clause-unchecked : goal.returns-in_default-clause-unchecked
+returns-in_default-clause-unchecked g c = λ off. fits_none c.args.code (is_in c.of.result.survivors) c.of.ensures.survivors
