@@ -13,10 +13,11 @@ use Rattle.lrc_code.specs.Sets.{is_in}
 use Rattle.lrc_code.proofs.PlaceSums.{at_places, same_place-eq, same_place-refl}
 use Rattle.store_repair.specs.Damage.{all_but}
 use Rattle.store_repair.specs.Findings.{NamesStay, is_without_length, named}
-use Rattle.store_repair.specs.Repaired.{AreAccountedFor, IsAccountedFor, IsOpenedOrNamed, IsWhole}
+use Rattle.store_repair.specs.Repaired.{AreAccountedFor, IsAccountedFor, IsOpenedOrNamed, IsWhole, IsWithoutLength}
 use Rattle.store_repair.specs.Scrubbed.{AreOfOneStripe}
 use Rattle.stores.specs.Store.{ShownFiles}
 use Rattle.store_repair.specs.declared.outcomes.Finding.{Finding}
+use Rattle.store_repair.specs.Lengths.{HaveNoCommonLength}
 use Rattle.store_repair.specs.Opened.{AreFound}
 use Rattle.stores.specs.Stripes.{has_file, is_file}
 use Rattle.stores.specs.declared.stripes.Found.TheVariants as found
@@ -98,21 +99,32 @@ all_accounted code survives files len lost opened tested absent stay found then 
 pub said_without_length : (findings : List Finding) → is_without_length findings ≡ true → findings ≢ []
 said_without_length findings said none = absurd (let nothing = ap is_without_length none in cc)
 
+-- what is said where no length was found
+pub without_length : (code : CodeName) (survives : Place → Bool) (files : List FoundName) (noted findings : List Finding) (o : Option ℕ)
+    → o ≡ None → findings ≡ noted → IfNone o (is_without_length noted ≡ true) → IfNone o (HaveNoCommonLength code files)
+    → ((p : Place) → survives p ≡ false) → IsWithoutLength code survives files findings
+without_length code survives files noted findings o is same said several none = record {
+  said = ap is_without_length same ∙ subst (λ x. IfNone x (is_without_length noted ≡ true)) is said;
+  several = subst (λ x. IfNone x (HaveNoCommonLength code files)) is several;
+  none = none;
+}
+
 -- no place is in a list of none
 none_in : (p : Place) → ¬ Contains [] p
 none_in p (k, lt, e) = absurd (omega (arith, lt))
 
 -- where nothing is said and nothing was made each place of the code survives
-pub all_survive : (code : CodeName) (survives : Place → Bool) (findings : List Finding) → AreAccountedFor code survives [] findings
+pub all_survive : (code : CodeName) (survives : Place → Bool) (files : List FoundName) (findings : List Finding)
+    → AreAccountedFor code survives files [] findings
     → findings ≡ [] → (p : Place) → has_place (tables_of code) p ≡ true → survives p ≡ true
-all_survive code survives findings (inl each) none p has = elim (cases_Bool (survives p)) as (λ _. survives p ≡ true) [
+all_survive code survives files findings (inl each) none p has = elim (cases_Bool (survives p)) as (λ _. survives p ≡ true) [
   | inl on ↦ on
   | inr out ↦ elim (each p has out) as (λ _. survives p ≡ true) [
     | inl own ↦ absurd (none_in p own)
     | inr is ↦ absurd (none_in p (subst (λ fs. Contains (named fs) p) none is))
   ]
 ]
-all_survive code survives findings (inr (said, out)) none p has = absurd (said_without_length findings said none)
+all_survive code survives files findings (inr without) none p has = absurd (said_without_length findings without.said none)
 
 -- fragments of one stripe at all places of the code are a whole stripe
 pub whole_of_all : (code : CodeName) (survives : Place → Bool) (len : ℕ) (s : List ℕ) (files : ShownFiles)

@@ -11,6 +11,7 @@ use Rattle.store_repair.specs.declared.outcomes.Finding.{Finding}
 use Rattle.stores.specs.declared.stripes.Found.{Found as FoundName}
 use Rattle.store_repair.specs.Findings.{is_without_length, named, said_differing}
 use Rattle.stores.specs.Stripes.{has_file, has_other_file}
+use Rattle.store_repair.specs.Lengths.{HaveNoCommonLength}
 use Rattle.store_repair.specs.Losses.{AreCovered, IsCovered}
 use Rattle.store_repair.specs.Scrubbed.{AreOfOneStripe, said_damaged}
 use Rattle.stores.specs.Store.{ShownFiles}
@@ -37,19 +38,22 @@ abbrev pub IsAccountedFor : CodeName → (Place → Bool) → List Place → Lis
 IsAccountedFor code survives made findings p =
     has_place (tables_of code) p ≡ true → survives p ≡ false → Contains made p ⊎ Contains (named findings) p
 
--- it isn't known how many bytes a stripe's fragments have: a finding says so, and nothing survives
-abbrev pub IsWithoutLength : (Place → Bool) → List Finding → Type 0
-IsWithoutLength survives findings = (is_without_length findings ≡ true) × ((p : Place) → survives p ≡ false)
+-- It isn't known how many bytes a stripe's fragments have: a finding says so, its files have no length in common, and nothing survives.
+pub record IsWithoutLength (code : CodeName) (survives : Place → Bool) (files : List FoundName) (findings : List Finding) : Type 0 where
+  pub said : is_without_length findings ≡ true
+  pub several : HaveNoCommonLength code files
+  pub none : (p : Place) → survives p ≡ false
 
 -- each place of the code survives, has a fragment made for it, or is named by a finding; or the stripe's length isn't known
-abbrev pub AreAccountedFor : CodeName → (Place → Bool) → List Place → List Finding → Type 0
-AreAccountedFor code survives made findings =
-    ((p : Place) → IsAccountedFor code survives made findings p) ⊎ IsWithoutLength survives findings
+abbrev pub AreAccountedFor : CodeName → (Place → Bool) → List FoundName → List Place → List Finding → Type 0
+AreAccountedFor code survives files made findings =
+    ((p : Place) → IsAccountedFor code survives made findings p) ⊎ IsWithoutLength code survives files findings
 
 -- the same of each place at which no file of the stripe's length was found
 abbrev pub AreLostAccountedFor : CodeName → (Place → Bool) → List FoundName → ℕ → List Place → List Finding → Type 0
 AreLostAccountedFor code survives files len made findings =
-    ((p : Place) → has_file files len p ≡ false → IsAccountedFor code survives made findings p) ⊎ IsWithoutLength survives findings
+    ((p : Place) → has_file files len p ≡ false → IsAccountedFor code survives made findings p)
+    ⊎ IsWithoutLength code survives files findings
 
 -- a place of the code at which a file of the stripe's length was found survives, or is named by a finding
 abbrev pub IsOpenedOrNamed : CodeName → List FoundName → ℕ → (Place → Bool) → List Finding → Place → Type 0
@@ -59,7 +63,7 @@ IsOpenedOrNamed code files len survives findings p =
 -- each such place does, or the stripe's length isn't known
 abbrev pub AreOpenedOrNamed : CodeName → List FoundName → ℕ → (Place → Bool) → List Finding → Type 0
 AreOpenedOrNamed code files len survives findings =
-    ((p : Place) → IsOpenedOrNamed code files len survives findings p) ⊎ IsWithoutLength survives findings
+    ((p : Place) → IsOpenedOrNamed code files len survives findings p) ⊎ IsWithoutLength code survives files findings
 
 -- Damage of what was read shows, or of what was made of it, where not all survivors had to be read: the store knows digests of the
 -- fragments that were made, or those that were read cover them.

@@ -1,8 +1,12 @@
 //! How many bytes the fragments of a stripe have. Where its files don't agree their checks decide, and never their number.
-ghost use Rattle.std.specs.Prelude.{◌≡◌, ◌≢◌, ℕ, [], true, IfNone, IfOk, IfSome, MatchOption, OnOk};
+ghost use Rattle.std.specs.Prelude.{◌≡◌, ◌≢◌, ◌&&◌, ℕ, [], true, IfNone, IfOk, IfSome, MatchOption, OnOk};
+ghost use Rattle.lrc_code.specs.Code.{has_place};
+ghost use Rattle.lrc_code.specs.Codes.{tables_of};
 ghost use Rattle.store_repair.specs.Findings.{is_without_length};
-ghost use Rattle.store_repair.specs.Lengths.{HasLengthAt, HaveOneLength, IfKnown, IsConfirmed, IsStripeLength};
+ghost use Rattle.store_repair.specs.Lengths.{HasLengthAt, HaveNoCommonLength, HaveOneLength, IfKnown, IfNotKnown};
+ghost use Rattle.store_repair.specs.Lengths.{IsConfirmed, IsStripeLength};
 ghost use Rattle.store_repair.specs.Scrubbed.{said_damaged};
+ghost use Rattle.stores.specs.Stripes.{has_file};
 
 use crate::consistency::are_consistent;
 use crate::length_groups::{LengthGroup, Lengths};
@@ -28,14 +32,15 @@ pub enum StripeLength {
 /// How many bytes each fragment of a stripe has: as many as each of its files, if these have one length, and else the length whose
 /// fragments have checks and belong together, if there is only one and no file is longer: the beginnings of a stripe's fragments are those
 /// of a stripe too. Fragments without bytes prove nothing. Fragments are read only where the lengths differ. No clause says that a length
-/// is known, or that checks confirm no other.
+/// is known where they do, or that checks confirm no other.
 pub fn stripe_length<S: Store>(
     alloc: Global,
     store: &S,
     code: Code,
     stripe: &Stripe<'_>,
 ) -> Result<StripeLength, AllocError>
-    ensures { IfOk result (IsStripeLength code stripe.now.files.found stripe.now.name.now (S.files store.now)) }
+    ensures is { IfOk result (IsStripeLength code stripe.now.files.found stripe.now.name.now (S.files store.now)) }
+    ensures several { IfOk result (IfNotKnown (HaveNoCommonLength code stripe.now.files.found)) }
 {
     if let Some(length) = common_length(code, &stripe.files) {
         return Ok(as_known(length));
@@ -52,7 +57,8 @@ pub fn stripe_length<S: Store>(
 
 /// So many bytes, if memory can be as long.
 fn as_known(length: u64) -> StripeLength
-    ensures { IfKnown (λ len. len ≡ length) result }
+    ensures is { IfKnown (λ len. len ≡ length) result }
+    ensures known { IfNotKnown ⊥ result }
 {
     match usize::try_from(length) {
         Ok(length) => StripeLength::Known(length),
@@ -62,7 +68,8 @@ fn as_known(length: u64) -> StripeLength
 
 /// How many bytes each file at a code's places has; none where there are no files, or where these differ in length.
 fn common_length(code: Code, files: &StripeFiles) -> Option<u64>
-    ensures { IfSome result (HaveOneLength code files.now.found) }
+    ensures each { IfSome result (HaveOneLength code files.now.found) }
+    ensures several { IfNone result (HaveNoCommonLength code files.now.found) }
 {
     let mut common = None;
     for index in 0..16 {
@@ -78,8 +85,9 @@ fn common_length(code: Code, files: &StripeFiles) -> Option<u64>
 
 /// How many bytes the file at a place has, if there is one and the place is the code's.
 fn length_at(code: Code, files: &StripeFiles, place: Place) -> Option<u64>
-    ensures { MatchOption result ((len : ℕ) → HasLengthAt code files.now.found len place)
+    ensures each { MatchOption result ((len : ℕ) → HasLengthAt code files.now.found len place)
         (λ len. HasLengthAt code files.now.found len place) }
+    ensures some { IfSome result (λ len. (has_place (tables_of code) place && has_file files.now.found len place) ≡ true) }
 {
     if !code.has(place) {
         return None;
@@ -101,6 +109,7 @@ pub(crate) fn length_or_note<S: Store>(
     ensures said { OnOk result (said_damaged findings.new.items ≡ said_damaged findings.old.items) }
     ensures some { IfOk result (λ o. IfNone o (findings.new.items ≢ [])) }
     ensures none { IfOk result (λ o. IfNone o (is_without_length findings.new.items ≡ true)) }
+    ensures several { IfOk result (λ o. IfNone o (HaveNoCommonLength code stripe.now.files.found)) }
 {
     match stripe_length(alloc, store, code, stripe)? {
         StripeLength::Known(length) => return Ok(Some(length)),

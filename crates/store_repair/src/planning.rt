@@ -36,7 +36,7 @@ pub fn plan_stripe<S: Store>(
     ensures apart { IfOk result (λ o. AreApart o.rebuilt.items) }
     ensures determined { IfOk result (λ o. All (IsDetermined repair.now.code (is_in o.survivors)) o.rebuilt.items) }
     ensures all { repair.now.reads ≡ ReadsAll → IfOk result (λ o.
-        AreAccountedFor repair.now.code (is_in o.survivors) o.rebuilt.items o.findings.items) }
+        AreAccountedFor repair.now.code (is_in o.survivors) stripe.now.files.found o.rebuilt.items o.findings.items) }
     ensures absent { IfOk result (λ o. AreLostAccountedFor repair.now.code (is_in o.survivors) stripe.now.files.found o.length
         o.rebuilt.items o.findings.items) }
     ensures unopened { repair.now.reads ≡ ReadsAll → IfOk result (λ o. AreOpenedOrNamed repair.now.code stripe.now.files.found o.length

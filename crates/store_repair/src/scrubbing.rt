@@ -43,7 +43,8 @@ pub fn scrub_stripe<S: Store>(
     ensures opened { IfOk result (λ o. IfSome (S.files store.now) (λ files. (p : Place) → is_in o.survivors p ≡ true
         → IsThereWith stripe.now.name.now o.length files p)) }
     ensures found { IfOk result (λ o. AreFound code stripe.now.files.found o.length (is_in o.survivors)) }
-    ensures all { IfOk result (λ o. AreAccountedFor code (is_in o.survivors) [] o.findings.items) }
+    ensures all { IfOk result (λ o. AreAccountedFor code (is_in o.survivors) stripe.now.files.found [] o.findings.items) }
+    ensures rebuilt { IfOk result (λ o. o.rebuilt.items ≡ []) }
     ensures whole { IfOk result (λ o. o.findings.items ≡ [] → IsWhole code o.length stripe.now.name.now (S.files store.now)) }
 {
     let mut findings = Vec::new(alloc);

@@ -1,9 +1,8 @@
-use Rattle.std.proofs.Common.{◌≡◌, ◌∙◌, IfSome, ap, arith, false, inl, inr, refl, subst, true, vec_len}
-use Rattle.std.specs.Prelude.{IfNone}
+use Rattle.std.proofs.Common.{◌≡◌, ◌∙◌, IfSome, arith, false, inl, inr, refl, subst, true, vec_len}
 use Rattle.lrc_code.specs.Sets.{is_in}
 use Rattle.stores.specs.Stripes.{has_file}
-use Rattle.store_repair.specs.Findings.{is_without_length}
 use Rattle.store_repair.specs.Opened.{AreFound, AreOpened}
+use Rattle.store_repair.proofs.AccountedLemmas.{without_length}
 use Rattle.store_repair.proofs.OpenedLemmas.{are_there}
 use Rattle.store_repair.proofs.planning.plan_stripe.Goals as goal
 use Rattle.store_repair.proofs.planning.plan_stripe.Goals.{in-All, in_default-matches}
@@ -45,25 +44,22 @@ returns-in-Some-2-clause-unopened g c = λ reads. absurd (elim c.match-matches.b
 ])
 
 pub returns-in_default-clause-all : goal.returns-in_default-clause-all
-returns-in_default-clause-all g c = λ reads. inr (
-  ap is_without_length c.of.ensures.findings
-      ∙ subst (λ o. IfNone o (is_without_length c.length_or_note.new.findings.items ≡ true)) c.in_default.is c.in_ok-known.ensures.none,
-  c.of.ensures.survivors,
-)
+returns-in_default-clause-all g c = λ reads. inr (without_length c.args.repair.now.code
+    (is_in c.of.result.survivors) c.args.stripe.now.files.found c.length_or_note.new.findings.items c.of.result.findings.items
+    c.in_ok-known.known c.in_default.is c.of.ensures.findings c.in_ok-known.ensures.none
+    c.in_ok-known.ensures.several c.of.ensures.survivors)
 
 pub returns-in_default-clause-absent : goal.returns-in_default-clause-absent
-returns-in_default-clause-absent g c = inr (
-  ap is_without_length c.of.ensures.findings
-      ∙ subst (λ o. IfNone o (is_without_length c.length_or_note.new.findings.items ≡ true)) c.in_default.is c.in_ok-known.ensures.none,
-  c.of.ensures.survivors,
-)
+returns-in_default-clause-absent g c = inr (without_length c.args.repair.now.code
+    (is_in c.of.result.survivors) c.args.stripe.now.files.found c.length_or_note.new.findings.items c.of.result.findings.items
+    c.in_ok-known.known c.in_default.is c.of.ensures.findings c.in_ok-known.ensures.none
+    c.in_ok-known.ensures.several c.of.ensures.survivors)
 
 pub returns-in_default-clause-unopened : goal.returns-in_default-clause-unopened
-returns-in_default-clause-unopened g c = λ reads. inr (
-  ap is_without_length c.of.ensures.findings
-      ∙ subst (λ o. IfNone o (is_without_length c.length_or_note.new.findings.items ≡ true)) c.in_default.is c.in_ok-known.ensures.none,
-  c.of.ensures.survivors,
-)
+returns-in_default-clause-unopened g c = λ reads. inr (without_length c.args.repair.now.code
+    (is_in c.of.result.survivors) c.args.stripe.now.files.found c.length_or_note.new.findings.items c.of.result.findings.items
+    c.in_ok-known.known c.in_default.is c.of.ensures.findings c.in_ok-known.ensures.none
+    c.in_ok-known.ensures.several c.of.ensures.survivors)
 
 pub returns-in-Some-2-clause-opened : goal.returns-in-Some-2-clause-opened
 returns-in-Some-2-clause-opened g c =

@@ -1,13 +1,12 @@
-use Rattle.std.proofs.Common.{◌≡◌, ◌≢◌, ◌∙◌, [], ap, arith, inl, inr, length, subst, sym, true}
+use Rattle.std.proofs.Common.{◌≡◌, ◌≢◌, ◌∙◌, [], ap, arith, inl, inr, length, subst, sym}
 use Rattle.std.specs.Prelude.{IfNone}
 use Rattle.std.proofs.lemmas.Bool.{cases_Bool}
 use Rattle.lrc_code.specs.Codes.{tables_of}
 use Rattle.lrc_code.specs.Sets.{is_in}
 use Rattle.lrc_plan.specs.Stripes.{at_place, IsPossible}
-use Rattle.store_repair.specs.Findings.{is_without_length}
 use Rattle.store_repair.specs.Scrubbed.{IsDamagedFragment, said_damaged}
 use Rattle.stores.specs.Shown.{AreShown}
-use Rattle.store_repair.proofs.AccountedLemmas.{all_accounted, all_survive, whole_of_all}
+use Rattle.store_repair.proofs.AccountedLemmas.{all_accounted, all_survive, whole_of_all, without_length}
 use Rattle.store_repair.proofs.CheckLemmas.{fits_none, unchecked_possible}
 use Rattle.store_repair.proofs.OpenedLemmas.{are_there}
 use Rattle.store_repair.proofs.WindowLemmas.{shown_length}
@@ -46,11 +45,9 @@ returns-clause-silent g c = λ none checked.
     c.in_ok-test.ensures.silent xs (subst (λ fs. AreShown shown fs xs) (sym c.as_slice.ensures.value) are) whole checked none)
 
 pub returns-in_default-clause-all : goal.returns-in_default-clause-all
-returns-in_default-clause-all g c = inr (
-  ap is_without_length c.of.ensures.findings
-      ∙ subst (λ o. IfNone o (is_without_length c.length_or_note.new.findings.items ≡ true)) c.in_default.is c.in_ok-known.ensures.none,
-  c.of.ensures.survivors,
-)
+returns-in_default-clause-all g c = inr (without_length c.args.code (is_in c.of.result.survivors) c.args.stripe.now.files.found
+    c.length_or_note.new.findings.items c.of.result.findings.items c.in_ok-known.known c.in_default.is c.of.ensures.findings
+    c.in_ok-known.ensures.none c.in_ok-known.ensures.several c.of.ensures.survivors)
 
 pub returns-in_default-clause-whole : goal.returns-in_default-clause-whole
 returns-in_default-clause-whole g c = λ none. absurd (
@@ -79,7 +76,7 @@ returns-clause-whole g c = λ none.
     let files = g.S.Store.files c.args.store.now in
     let sixteen : length opened.fragments.items ≡ 16 = omega (arith, c.in_ok-opened.ensures.sixteen) in
     whole_of_all code (is_in set) len name files
-    (all_survive code (is_in set) c.test.new.findings.items (returns-clause-all g c) none)
+    (all_survive code (is_in set) c.args.stripe.now.files.found c.test.new.findings.items (returns-clause-all g c) none)
     (of_one_stripe shown code name len set opened.fragments.items sixteen files c.in_ok-opened.ensures.opened
     (λ xs are whole. elim (cases_Bool c.have_checks-is_checked.result) as (λ _. IsPossible (tables_of code) (is_in set) (at_place xs) len) [
       | inl on ↦ c.in_ok-test.ensures.silent xs (subst (λ fs. AreShown shown fs xs) (sym c.as_slice.ensures.value) are) whole on none
