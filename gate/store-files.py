@@ -589,6 +589,7 @@ def test_unmounted_disk(place, choose):
     source(place, "a", data)
     for number in range(10):
         (store / f"disk{number}").mkdir(parents=True)
+    (place / "to/disk3").mkdir(parents=True)
     script = f"""set -e
     for n in 0 1 2 3 4 5 6 7 8 9; do mount -t tmpfs -o size=4m,mode=755 none {store}/disk$n || exit 77; done
     p={PROGRAM}; w="--code 6-2-2 --names disk{{shard}}/{{stripe}}"
@@ -599,16 +600,21 @@ def test_unmounted_disk(place, choose):
     $p repair -n $w {store}; echo "plan $?"
     $p scrub $w {store}; echo "scrub $?"
     $p encode $w {store} {PROGRAM}; echo "encode $?"
+    $p repair --to {place}/to $w {store} 2> /dev/null; echo "to $? $(ls -A {place}/to/disk3 | wc -l)"
     echo "left $(ls -A {store}/disk3 | wc -l)"
     $p repair --allow-unmounted $w {store}; echo "allowed $?"
     echo "made $(ls -A {store}/disk3 | wc -l)"
+    $p encode --allow-unmounted --as b $w {store} {place}/a; echo "encoded $?"
+    for n in 4 5 6 7; do umount {store}/disk$n; done
+    echo "half $($p repair -n $w {store} 2>&1 | grep -c 'no disk is mounted')"
     """
     ended = subprocess.run(["unshare", "--mount", "bash", "-c", script], capture_output=True, text=True, timeout=SECONDS)
     if ended.returncode == 77 or "unshare" in ended.stderr:
         raise Skipped(f"nothing can be mounted here: {ended.stderr.strip()}")
-    kinds = ("repair", "plan", "scrub", "encode", "left", "allowed", "made")
+    kinds = ("repair", "plan", "scrub", "encode", "to", "left", "allowed", "made", "encoded", "half")
     words = [line for line in ended.stdout.splitlines() if line.split()[0] in kinds]
-    hold(words == ["repair 3", "plan 3", "scrub 1", "encode 1", "left 0", "allowed 0", "made 2"], f"{words}: {ended.stdout}{ended.stderr}")
+    want = ["repair 3", "plan 3", "scrub 1", "encode 1", "to 0 2", "left 0", "allowed 0", "made 2", "encoded 0", "half 0"]
+    hold([line for line in words if not line.startswith(("repaired", "encoded 1 "))] == want, f"{words}: {ended.stdout}{ended.stderr}")
     hold(ended.stderr.count("disk3: no disk is mounted there") == 4, ended.stderr)
 
 
