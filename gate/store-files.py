@@ -105,7 +105,14 @@ def test_list(place, choose):
     out, err = run("list", *CODED, store, status=0)
     hold(out.decode() == "".join(f"whole {length} 6-2-2 10/10 {name}\n" for name, length in lengths.items()), out)
     hold(err == "3 files; not whole: 0\n", err)
+    (store / "disk5/a.file").unlink()
+    out, _ = run("list", *CODED, store, status=0)
+    hold(out.startswith(b"degraded 0 6-2-2 10/10 a\nwhole "), out)
     shutil.rmtree(store / "disk3")
+    (store / "disk3").symlink_to("disk3")
+    _, err = run("list", "--follow-links", *CODED, store, status=3)
+    hold("disk3: Too many levels of symbolic links: what should be in it counts as lost" in err, err)
+    (store / "disk3").unlink()
     (store / "disk3").mkdir()
     for number in (0, 1, 2, 4, 5):
         (store / f"disk{number}/d").unlink()
@@ -158,9 +165,9 @@ def test_read_to_a_file(place, choose):
     run("read", store, "a", "-o", out, status=0, umask=0o027)
     hold(out.read_bytes() == data and out.stat().st_mode & 0o7777 == 0o640, "a file that is read isn't what it was")
     out.write_bytes(b"older")
-    out.chmod(0o600)
+    out.chmod(0o604)
     run("read", store, "a", f"--output={out}", status=0)
-    hold(out.read_bytes() == data and out.stat().st_mode & 0o7777 == 0o600, "a file that was there has other rights")
+    hold(out.read_bytes() == data and out.stat().st_mode & 0o7777 == 0o604, "a file that was there has other rights")
     link, behind, fifo = place / "link", place / "behind", place / "fifo"
     behind.write_bytes(b"x" * 200_000)
     link.symlink_to(behind)
@@ -391,6 +398,11 @@ def test_remove_through_a_link(place, choose):
     (store / "disk3").rename(outside)
     (store / "disk3").symlink_to(outside)
     before, files = there(outside), there(store)
+    for command, more in (("verify", []), ("read", ["-o", place / "read"])):
+        _, err = run(command, *DISKS, store, "a", *more, status=0)
+        hold("disk3/a: left out: its folder is a link, and links aren't followed" in err, f"{command}: {err}")
+        _, err = run(command, "--follow-links", *DISKS, store, "a", *more, status=0)
+        hold("left out" not in err, f"{command}: {err}")
     _, err = run("remove", *CODED, store, "a", status=3)
     hold("its folder is a link, and links aren't followed" in err and there(outside) == before and there(store) == files, err)
     run("remove", "--follow-links", *CODED, store, "a", status=0)
@@ -577,6 +589,7 @@ def test_unmounted_disk(place, choose):
     source(place, "a", data)
     for number in range(10):
         (store / f"disk{number}").mkdir(parents=True)
+    (place / "to/disk3").mkdir(parents=True)
     script = f"""set -e
     for n in 0 1 2 3 4 5 6 7 8 9; do mount -t tmpfs -o size=4m,mode=755 none {store}/disk$n || exit 77; done
     p={PROGRAM}; w="--code 6-2-2 --names disk{{shard}}/{{stripe}}"
@@ -587,16 +600,21 @@ def test_unmounted_disk(place, choose):
     $p repair -n $w {store}; echo "plan $?"
     $p scrub $w {store}; echo "scrub $?"
     $p encode $w {store} {PROGRAM}; echo "encode $?"
+    $p repair --to {place}/to $w {store} 2> /dev/null; echo "to $? $(ls -A {place}/to/disk3 | wc -l)"
     echo "left $(ls -A {store}/disk3 | wc -l)"
     $p repair --allow-unmounted $w {store}; echo "allowed $?"
     echo "made $(ls -A {store}/disk3 | wc -l)"
+    $p encode --allow-unmounted --as b $w {store} {place}/a; echo "encoded $?"
+    for n in 4 5 6 7; do umount {store}/disk$n; done
+    echo "half $($p repair -n $w {store} 2>&1 | grep -c 'no disk is mounted')"
     """
     ended = subprocess.run(["unshare", "--mount", "bash", "-c", script], capture_output=True, text=True, timeout=SECONDS)
     if ended.returncode == 77 or "unshare" in ended.stderr:
         raise Skipped(f"nothing can be mounted here: {ended.stderr.strip()}")
-    kinds = ("repair", "plan", "scrub", "encode", "left", "allowed", "made")
+    kinds = ("repair", "plan", "scrub", "encode", "to", "left", "allowed", "made", "encoded", "half")
     words = [line for line in ended.stdout.splitlines() if line.split()[0] in kinds]
-    hold(words == ["repair 3", "plan 3", "scrub 1", "encode 1", "left 0", "allowed 0", "made 2"], f"{words}: {ended.stdout}{ended.stderr}")
+    want = ["repair 3", "plan 3", "scrub 1", "encode 1", "to 0 2", "left 0", "allowed 0", "made 2", "encoded 0", "half 0"]
+    hold([line for line in words if not line.startswith(("repaired", "encoded 1 "))] == want, f"{words}: {ended.stdout}{ended.stderr}")
     hold(ended.stderr.count("disk3: no disk is mounted there") == 4, ended.stderr)
 
 

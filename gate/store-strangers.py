@@ -284,11 +284,16 @@ def test_links(place, choose):
     hold((store / "a.px").stat().st_mode & 0o7777 == 0o644, "a fragment has the rights of what a link leads to")
     hold((store / "a.x0").is_symlink() and (store / "b.p0").is_symlink(), f"a link was replaced: {said}")
     hold(there(outside) == {"secret": b"p" * 600}, f"a file was made outside the store: {sorted(there(outside))}")
-    hold("--follow-links" in said and "a.x0: is no regular file" in said, said)
+    hold("--follow-links" in said and "2 in all" in said and "a.x0: is no regular file" in said, said)
     run("scrub", store, status=1)
     run("lost", store, status=1)
     secret.write_bytes(files["a.x0"])
+    # What a killed run left where links lead is removed, also beside a name that is no UTF-8.
+    (outside / LEFTOVER).write_bytes(b"half")
+    with open(os.fsencode(outside) + b"/\xff", "wb"):
+        pass
     run("repair", store, "--follow-links", status=0)
+    hold(not (outside / LEFTOVER).exists(), "what a killed run left where a link leads stays")
     hold((store / "b.p0").is_symlink() and (outside / "made").read_bytes() == files["b.p0"], "a link wasn't followed")
     hold((outside / "made").stat().st_mode & 0o7000 == 0, "a fragment has the identity of its owner")
 
@@ -317,6 +322,25 @@ def test_linked_folders(place, choose):
     hold(there(outside) == {"note": list(data.values())[3]}, "a link wasn't followed")
     run("scrub", store, *names, status=1)
     run("scrub", store, *names, "--follow-links", status=0)
+
+
+def test_links_above_folders(place, choose):
+    """A link on the way to disks' folders isn't gone through either, and one that is given as the store is."""
+    store, outside, source = place / "linked-above", place / "outside-above", place / "above-source"
+    names = ["--code", "6-2-2", "--names", "in/disk{shard}/{stripe}"]
+    store.mkdir()
+    files = lay_disks(outside, choose)
+    (store / "in").symlink_to(outside)
+    source.write_bytes(b"source")
+    hold("is this the store?" in run("scrub", store, *names, status=1), "a link above the folders of disks was gone through")
+    hold("its folder is a link" in run("encode", store, source, *names, status=3), "a file was encoded through a link")
+    hold(below(outside) == files, "something was written through a link")
+    run("scrub", store, *names, "--follow-links", status=0)
+    (outside / "disk3/a").unlink()
+    given = place / "given-as-a-link"
+    given.symlink_to(outside)
+    run("repair", given, *DISKS, status=0)
+    hold(below(outside) == files, "a store that is given as a link isn't repaired")
 
 
 def test_linked_digests(place, choose):
@@ -601,6 +625,12 @@ def test_root_in_others_folders(place, choose):
         run("scrub", store, *words, status=1)
         run("repair", store, *words, "--trust-writers", status=0)
         hold(lost.read_bytes() == data, "the fragment isn't what it was")
+    own, to = place / "own", place / "others-to"
+    lay(own, choose)
+    (own / "s.x0").unlink()
+    to.mkdir()
+    to.chmod(0o777)
+    hold(str(to) in run("repair", own, "--to", to, status=2) and not there(to), "root wrote fragments where others may write")
 
 
 def test_kept_fragments(place, choose):
@@ -790,7 +820,8 @@ def test_expected(place, choose):
         else:
             sums = "".join(f"{digest(path.read_bytes())}  {path.name}\n" for path in sorted(store.iterdir()))
             path = store / "SHA256SUMS" if kind == "sums" else place / "sums"
-            path.write_text(sums)
+            # A name that is no UTF-8 is nobody's.
+            path.write_bytes(f"{digest(b'')}  b".encode() + b"\xff\n" + sums.encode())
             words = ["--sums", path] if kind == "given" else []
         run("repair", store, *words, status=0)
         for path in store.glob("gone.[xyp]*"):
@@ -835,8 +866,18 @@ def test_descriptions(place, choose):
         said = run("repair", store, *DISKS, status=0)
         hold(f"; {len(lost)} description{'s' * (len(lost) > 1)} made" in said, said)
         hold(below(store) == whole, f"the store isn't what it was: {said}")
-    for name in copies[1:]:
+    hold(len({(store / name).stat().st_mode for name in copies}) == 1, "a copy that was made has other rights than the others")
+    # With --to it is made there, and the store stays as it is.
+    to = place / "encoded-to"
+    (to / "disk3").mkdir(parents=True)
+    for name in ("disk3/note", copies[3]):
         (store / name).unlink()
+    before = below(store)
+    run("repair", store, *DISKS, "--to", to, status=0)
+    hold(below(store) == before, "with --to the store was changed")
+    hold(below(to) == {name: whole[name] for name in ("disk3/note", copies[3])}, f"{sorted(below(to))} are there")
+    for name in copies[1:]:
+        (store / name).unlink(missing_ok=True)
     for disk in ("disk0", "disk5"):
         (store / disk / "note").unlink()
     ended = subprocess.run([PROGRAM, "read", store, "note", *names], capture_output=True)
@@ -905,6 +946,9 @@ def test_descriptions_of_before(place, choose):
     whole = below(store)
     for path in store.glob("disk*/note.file"):
         path.unlink()
+    sums = {name: data for name, data in whole.items() if name.endswith("/note")} | {"note.file": line}
+    (store / "SHA256SUMS").write_text("".join(f"{digest(data)}  {name}\n" for name, data in sums.items()))
+    hold("disk0/note.file: is lost" in run("scrub", store, *DISKS, status=1), "a description that the sums name is passed over")
     (store / "note.file").write_bytes(line)
     (store / "SHA256SUMS").unlink()
     ended = subprocess.run([PROGRAM, "read", store, "note", *DISKS[2:]], capture_output=True)
@@ -1000,6 +1044,12 @@ def test_descriptions_in_one_folder(place, choose):
         for name in copies:
             (store / name).unlink()
         hold(f"{copies[0]}: is lost" in run("scrub", store, *names, status=1), "lost descriptions that the sums name are passed over")
+        # Where no copy says anything, and no sums name one, each is named.
+        (store / "SHA256SUMS").unlink()
+        for name in copies:
+            (store / name).write_bytes(b"odd")
+        said = run("scrub", store, *names, status=1)
+        hold(all(f"{name}: isn't a line with" in said for name in copies), f"copies that say nothing are passed over: {said}")
 
 
 def test_names_like_descriptions(place, choose):
@@ -1055,6 +1105,30 @@ def test_stripe_that_changes_meanwhile(place, choose):
     hold((store / "s.x1").read_bytes() == after["x1"], "what was rebuilt isn't of the new stripe")
 
 
+def test_lengths_that_nothing_decides(place, choose):
+    """A stripe of whose files' lengths no check says which is right is left, and named by each command."""
+    store = place / "undecided"
+    files = lay(store, choose)
+    for name in ("x0", "x1", "y0", "p0", "p1"):
+        (store / f"s.{name}").write_bytes(files[f"s.{name}"][:300])
+    for command in ("scrub", "repair", "lost"):
+        hold("s: its fragments have different lengths" in run(command, store, status=1), f"{command} says something else")
+
+
+def test_code_that_places_say(place, choose):
+    """Without a code the places say it: half of the stripes are enough for 12-2-2, and a file alone says nothing."""
+    store, narrow = place / "half", place / "narrow"
+    store.mkdir()
+    for name in "ab":
+        for at, data in stripe("12-2-2", 30, choose).items():
+            if name == "a" or at[1:] not in ("3", "4", "5"):
+                (store / f"{name}.{at}").write_bytes(data)
+    hold("2 stripes; 6 fragments lost" in run("lost", store, status=1), "half of the stripes say nothing")
+    lay(narrow, choose)
+    (narrow / "notes.x3").write_bytes(b"mine")
+    run("scrub", narrow, status=0)
+
+
 def part_of(name, parts):
     """Which part a stripe is of."""
     return int.from_bytes(hashlib.sha256(name.encode()).digest()[:8], "big") % parts + 1
@@ -1089,21 +1163,37 @@ def test_contradictory_stripes(place, choose):
     for name in set(names) - set(bad):
         hold((store / f"{name}.x0").exists() == (part_of(name, 3) == 1), "another part was repaired")
         files.pop(f"{name}.x0")
+    # One that a single damaged fragment explains is no sign of another store.
+    suspect = place / "suspect"
+    files = lay(suspect, choose)
+    (suspect / "s.x1").write_bytes(bytes(255 - byte for byte in files["s.x1"]))
+    (suspect / "s.x2").unlink()
+    said = run("repair", suspect, status=1)
+    hold("contradiction: one of these is damaged" in said and "is this the store?" not in said, said)
 
 
 def test_other_parts(place, choose):
-    """A run of a part is refused while a run works on the store in another number of parts, and only then."""
-    store = place / "other-parts"
-    lay(store, choose)
-    lock = store / ".rebuild-store-part-1-of-3"
-    held = os.open(lock, os.O_CREAT | os.O_RDWR)
-    run("repair", store, "--part", "1/2", status=0)
-    fcntl.flock(held, fcntl.LOCK_EX)
-    hold("another run works in this store" in run("repair", store, "--part", "1/2", status=1), "parts of two divisions were worked on")
-    hold(not (store / LOCK_OF_PART).exists() and lock.exists(), "a lock is left, or another run's is gone")
-    run("repair", store, "--part", "2/3", status=0)
-    os.close(held)
-    run("repair", store, "--part", "1/2", status=0)
+    """A run of a part is refused while a run works on the store in another number of parts, and only then, also where fragments are in
+    folders of their stripes."""
+    stores = [place / "other-parts", place / "other-parts-below"]
+    lay(stores[0], choose)
+    (stores[1] / "s").mkdir(parents=True)
+    for name, data in stripe("6-2-2", 600, choose).items():
+        (stores[1] / "s" / name).write_bytes(data)
+    for store, words in zip(stores, ([], ["--names", "{stripe}/{place}"])):
+        (store / LEFTOVER).write_bytes(b"half")
+        lock = store / ".rebuild-store-part-1-of-3"
+        held = os.open(lock, os.O_CREAT | os.O_RDWR)
+        run("repair", store, *words, "--part", "1/2", status=0)
+        fcntl.flock(held, fcntl.LOCK_EX)
+        said = run("repair", store, *words, "--part", "1/2", status=1)
+        hold("another run works in this store" in said, "parts of two divisions were worked on")
+        hold(not (store / LOCK_OF_PART).exists() and lock.exists(), "a lock is left, or another run's is gone")
+        run("repair", store, *words, "--part", "2/3", status=0)
+        os.close(held)
+        run("repair", store, *words, "--part", "1/2", status=0)
+        run("repair", store, *words, status=0)
+        hold(not (store / LEFTOVER).exists() and not lock.exists(), "what was left above the fragments stays")
 
 
 def test_wrong_code(place, choose):
@@ -1135,6 +1225,8 @@ def test_sums_given(place, choose):
     hold(f"{sums}: names no file of the store" in said, said)
     sums.write_text("".join(f"{digest(data)}  {name}\n" for name, data in files.items()))
     hold("names no file" not in run("scrub", store, "--sums", sums, status=0), "digests that fit are called strange")
+    (place / "sums-link").symlink_to(sums)
+    run("scrub", store, "--sums", place / "sums-link", status=0)
     lost = ("a.x0", "a.x1", "a.y0", "a.p0")
     for name in lost:
         (store / name).unlink()
@@ -1143,7 +1235,8 @@ def test_sums_given(place, choose):
     for name in lost:
         (store / name).unlink()
     said = run("repair", store, "--report", report, status=0)
-    hold("(4 unchecked" in said and said.count("rebuilt unchecked") == 4 and report.read_text().count("unchecked") == 4, said)
+    hold("(4 unchecked: a.x0 a.x1 a.y0 ..)" in said and said.count("rebuilt unchecked") == 4, said)
+    hold(report.read_text().count("unchecked") == 4, report.read_text())
     hold(there(store) == files, "the store isn't what it was")
     for option in ("--sums", "--stripes"):
         hold("nothere: No such file" in run("scrub", store, option, place / "nothere", status=3), f"{option} isn't named")
@@ -1192,6 +1285,7 @@ def test_dry_run(place, choose):
     (store / "a.y1").write_bytes(b"short")
     (store / "b.y0").unlink()
     (store / "b.y0").mkdir()
+    (store / LEFTOVER).write_bytes(b"half")
     before = below(store)
     for options, count, more in (([], 1, ", with --replace-damaged 1"), (["--replace-damaged"], 2, "")):
         said = run("repair", store, "--dry-run", "--report", report, *options, status=1)
@@ -1199,7 +1293,7 @@ def test_dry_run(place, choose):
         rows = report.read_text()
         hold(rows.count(",would be rebuilt,") == count and ",rebuilt," not in rows, rows)
         hold("rebuilt unchecked" not in said, said)
-        hold(below(store) == before, "a dry run changed the store")
+        hold(below(store) == before and LEFTOVER not in said, f"a dry run changed the store, or would have: {said}")
     said = run("repair", store, "--replace-damaged", status=1)
     hold("repaired 2 fragments" in said and "not possible: 1" in said, said)
     many = place / "many-lost"
@@ -1208,6 +1302,14 @@ def test_dry_run(place, choose):
         (many / f"s.{lost}").unlink()
     said = run("repair", many, "--dry-run", status=1)
     hold(said.count(": would be rebuilt unchecked: ") == 4 and ": rebuilt unchecked" not in said, said)
+    # Fragments of 256 GiB, each of which is a hole.
+    holes = place / "holes"
+    holes.mkdir()
+    for there_is in ("x1", "x2", "y0", "y1", "y2", "px", "py", "p0", "p1"):
+        with open(holes / f"s.{there_is}", "wb") as file:
+            file.truncate(1 << 38)
+    said = run("repair", holes, "--dry-run", status=1)
+    hold("256 GiB; 1 lost in 1; 1 can be rebuilt (0 unchecked), 0 can't; reads 2 TiB, writes 256 GiB\n" in said, said)
     damaged = place / "damaged"
     lay(damaged, choose)
     (damaged / "s.x0").write_bytes(bytes(600))

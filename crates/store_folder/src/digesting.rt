@@ -1,5 +1,5 @@
 //! SHA-256 digests of fragments that are there.
-ghost use Rattle.std.specs.Prelude.{◌≡◌, ◌≤◌, ◌*◌, length};
+ghost use Rattle.std.specs.Prelude.{◌≡◌, ◌≤◌, ◌*◌, IfSome, IsSome, OnErr, length};
 ghost use Rattle.sha256_lanes.specs.Lanes.{AreOfOneLength, message};
 
 use sha2::{Digest as _, Sha256};
@@ -158,11 +158,13 @@ fn eight_parts(room: &[u8], size: usize) -> [&[u8]; 8]
     ]
 }
 
-/// Why a fragment isn't used, by its digest and the one that it has to have.
+/// Why a fragment isn't used, by its digest and the one that it has to have: one that couldn't be read isn't.
 pub(crate) fn refusal_of(
     digest: Option<io::Result<Digest>>,
     sum: &Option<Digest>,
-) -> Option<io::Error> {
+) -> Option<io::Error>
+    ensures { IfSome digest (λ read. OnErr read (IsSome result)) }
+{
     match (digest, sum) {
         (Some(Ok(digest)), Some(sum)) if digest != *sum => {
             Some(io::Error::from(io::ErrorKind::InvalidData))

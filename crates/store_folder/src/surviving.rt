@@ -1,5 +1,5 @@
 //! Fragments that survive as files.
-ghost use Rattle.std.specs.Prelude.{None};
+ghost use Rattle.std.specs.Prelude.{◌≡◌, IfOk, None};
 
 use crate::links::Links;
 use crate::regular::open_in;
@@ -47,7 +47,9 @@ pub(crate) fn open_fragment_in<F: Folder>(
     path: &str,
     length: u64,
     links: Links,
-) -> io::Result<FileFragment<F::Open>> {
+) -> io::Result<FileFragment<F::Open>>
+    ensures { IfOk result (λ fragment. fragment.opened.length ≡ length) }
+{
     let (file, opened) = open_in(folder, path, links)?;
     if opened.length != length {
         return Err(io::Error::from(ErrorKind::UnexpectedEof));
