@@ -10,6 +10,7 @@ pub(crate) mod stripe_files;
 pub(crate) mod subfolders;
 pub(crate) mod sums;
 
+use crate::removing::has_any;
 use fragments::{Encoded, make_encoded, source_digest};
 use lrc_code::{Code, Place};
 use ordering::place_stripe;
@@ -46,13 +47,10 @@ pub fn encode_file<R: Threads + Sync>(
     target: &mut Target<'_>,
     source: &SourceFile<'_>,
 ) -> Result<(), FileFault> {
-    let alloc = rt.alloc();
     let path = source.path;
     let name = stripe_name(rt, source.name.unwrap_or(path))?;
     let before = regular(rt, path)?;
-    open_fragment(rt, path, before.len(), Links::Followed).map_err(|error| source_fault(
-        alloc, path, error,
-    ))?;
+    refuse_unreadable(rt, path, before.len())?;
     refuse_names(rt, target, path, name)?;
     if target.makes_folders {
         make_folders(rt, target, name)?;
@@ -68,15 +66,22 @@ pub fn encode_file<R: Threads + Sync>(
     if is_described(rt, target, name)? {
         given.digest = Some(source_digest(rt, &given)?);
     }
-    match refuse_others(rt, target, name, &given) {
-        Ok(()) => encode_as(threads, rt, target, name, &given),
-        Err(FileFault::Refused { what }) => {
-            if !target.replaces {
-                return Err(FileFault::Refused { what });
-            }
-            replace(threads, rt, target, name, &given)
-        }
-        Err(fault) => Err(fault),
+    let fault = match refuse_others(rt, target, name, &given) {
+        Ok(()) => return encode_as(threads, rt, target, name, &given),
+        Err(fault) => fault,
+    };
+    if !target.replaces || !matches!(&fault, FileFault::Refused { .. }) {
+        return Err(fault);
+    }
+    drop(fault);
+    replace(threads, rt, target, name, &given)
+}
+
+/// Refuses a file that can't be opened to be read, or hasn't so many bytes.
+fn refuse_unreadable(rt: &HostRuntime, path: &str, length: u64) -> Result<(), FileFault> {
+    match open_fragment(rt, path, length, Links::Followed) {
+        Ok(_) => Ok(()),
+        Err(error) => Err(source_fault(rt.alloc(), path, error)),
     }
 }
 
@@ -159,21 +164,15 @@ fn refuse_names(
         fragment.ends_with(KEPT) || (is_ambiguous && fragment.ends_with(DESCRIPTION))
     };
     if names.iter().any(is_taken) || is_staged(name) || !target.has_names(alloc, name)? {
-        return Err(no_name(rt, path)?);
+        return Err(no_name(rt, path));
     }
     Ok(())
 }
 
 /// Whether there is a description of a stripe.
 fn is_described(rt: &HostRuntime, target: &Target<'_>, name: &str) -> Result<bool, FileFault> {
-    let alloc = rt.alloc();
-    for description in target.descriptions(alloc, name)? {
-        let path = target.path(alloc, description.as_str())?;
-        if is_there(rt, path.as_str())? {
-            return Ok(true);
-        }
-    }
-    Ok(false)
+    let descriptions = target.descriptions(rt.alloc(), name)?;
+    has_any(rt, target, descriptions.as_slice())
 }
 
 /// What is to be said of a file whose digest is known.
@@ -194,11 +193,7 @@ fn refuse_others(
     name: &str,
     given: &Given<'_>,
 ) -> Result<(), FileFault> {
-    let alloc = rt.alloc();
-    let described = described_as(target.code, given);
-    for description in target.descriptions(alloc, name)? {
-        refuse_description(rt, target, description.as_str(), described)?;
-    }
+    refuse_descriptions(rt, target, name, described_as(target.code, given))?;
     if target.pattern.has_shards() {
         return Ok(());
     }
@@ -206,6 +201,20 @@ fn refuse_others(
         if !target.code.has(*place) {
             refuse_fragment(rt, target, name, *place)?;
         }
+    }
+    Ok(())
+}
+
+/// Refuses a file under the names of whose descriptions there is something else.
+fn refuse_descriptions(
+    rt: &HostRuntime,
+    target: &Target<'_>,
+    name: &str,
+    described: Option<Described>,
+) -> Result<(), FileFault> {
+    let descriptions = target.descriptions(rt.alloc(), name)?;
+    for description in &descriptions {
+        refuse_description(rt, target, description.as_str(), described)?;
     }
     Ok(())
 }
@@ -223,7 +232,7 @@ fn refuse_description(
     }
     match read_description(rt, path.as_str(), target.links) {
         Ok(Some(there)) if described == Some(there) => Ok(()),
-        _ => Err(is_there_already(rt, description)?),
+        _ => Err(is_there_already(rt, description)),
     }
 }
 
@@ -238,7 +247,7 @@ fn refuse_fragment(
     let fragment = fragment_name(alloc, &target.pattern, Code::Wide, name, place)?;
     let path = path_in(alloc, target.folder, fragment.as_str())?;
     if is_there(rt, path.as_str())? {
-        return Err(is_there_already(rt, fragment.as_str())?);
+        return Err(is_there_already(rt, fragment.as_str()));
     }
     Ok(())
 }

@@ -15,15 +15,27 @@ pub(crate) fn remove_own_folders(
 ) -> Result<(), AllocError> {
     let alloc = rt.alloc();
     let others = stripe_folders(alloc, &target.pattern, target.code, other)?;
-    for folder in stripe_folders(alloc, &target.pattern, target.code, stripe)? {
-        let mut inside = folder.as_str();
-        for _level in 0..target.pattern.depth() {
-            if inside.is_empty() || is_above(inside, others.as_slice()) {
-                break;
-            }
-            remove_empty(rt, target, inside)?;
-            inside = folder_in(inside);
+    let folders = stripe_folders(alloc, &target.pattern, target.code, stripe)?;
+    for folder in &folders {
+        remove_levels(rt, target, folder.as_str(), others.as_slice())?;
+    }
+    Ok(())
+}
+
+/// Removes a folder and those that it is in, as far as they aren't those of another stripe, and nothing is in them.
+fn remove_levels(
+    rt: &HostRuntime,
+    target: &Target<'_>,
+    folder: &str,
+    others: &[String],
+) -> Result<(), AllocError> {
+    let mut inside = folder;
+    for _level in 0..target.pattern.depth() {
+        if inside.is_empty() || is_above(inside, others) {
+            break;
         }
+        remove_empty(rt, target, inside)?;
+        inside = folder_in(inside);
     }
     Ok(())
 }

@@ -7,7 +7,7 @@ ghost use Rattle.store_encoding.specs.Replaced.{IsTextOf};
 ghost use Rattle.store_encoding.specs.Taken.{GoesOf, IsTakenOut, KeepsRest};
 
 use crate::encoding::stripe_files::StripeFiles;
-use crate::encoding::sums::write_new_sums;
+use crate::encoding::sums::{forget_digests, write_new_sums};
 use crate::own_folders::remove_own_folders;
 use crate::taking::take_files;
 use folders::Folder;
@@ -29,10 +29,20 @@ pub fn remove_stored(
         return Err(no_stored(alloc, name, target.folder)?);
     }
     let staged = staged_name(alloc, name)?;
-    let files = names_of_both(rt, target, name, staged.as_str())?;
-    remove_both(rt, target, name, &files)?;
+    remove_files(rt, target, name, staged.as_str())?;
     remove_own_folders(rt, target, staged.as_str(), name)?;
     Ok(remove_own_folders(rt, target, name, staged.as_str())?)
+}
+
+/// Takes a stripe's files out of a store, and those that were to replace them.
+fn remove_files(
+    rt: &HostRuntime,
+    target: &mut Target<'_>,
+    name: &str,
+    staged: &str,
+) -> Result<(), FileFault> {
+    let files = names_of_both(rt, target, name, staged)?;
+    remove_both(rt, target, name, &files)
 }
 
 /// The names of a stripe's files, and of those that were to replace them.
@@ -59,13 +69,10 @@ fn add_names(
     stripe: &str,
     names: &mut StripeFiles,
 ) -> Result<(), FileFault> {
-    for description in names_of_descriptions(rt, target, stripe)? {
-        names.descriptions.push(description)?;
-    }
-    for fragment in target.names(rt.alloc(), stripe)? {
-        names.fragments.push(fragment)?;
-    }
-    Ok(())
+    let mut descriptions = names_of_descriptions(rt, target, stripe)?;
+    names.descriptions.append(&mut descriptions)?;
+    let mut fragments = target.names(rt.alloc(), stripe)?;
+    Ok(names.fragments.append(&mut fragments)?)
 }
 
 /// Takes the files of these names out of a store, and their digests; refuses the file of a name of which none is there.
@@ -82,11 +89,8 @@ fn remove_both(
     if !has_any(rt, target, descriptions)? && !has_any(rt, target, fragments)? {
         return Err(no_stored(rt.alloc(), name, target.folder)?);
     }
-    for other in descriptions.iter().chain(fragments.iter()) {
-        if target.sums.remove(other.as_str()) {
-            target.is_changed = true;
-        }
-    }
+    forget_digests(target, descriptions);
+    forget_digests(target, fragments);
     take_out(
         rt,
         &mut SystemFolder::new(rt),
@@ -127,14 +131,23 @@ fn take_out<F: Folder>(
 }
 
 /// Whether there is anything under one of some names.
-fn has_any(rt: &HostRuntime, target: &Target<'_>, names: &[String]) -> Result<bool, FileFault> {
+pub(crate) fn has_any(
+    rt: &HostRuntime,
+    target: &Target<'_>,
+    names: &[String],
+) -> Result<bool, FileFault> {
     for name in names {
-        let path = target.path(rt.alloc(), name.as_str())?;
-        if is_there(rt, path.as_str())? {
+        if has_file(rt, target, name.as_str())? {
             return Ok(true);
         }
     }
     Ok(false)
+}
+
+/// Whether there is anything under a name.
+fn has_file(rt: &HostRuntime, target: &Target<'_>, name: &str) -> Result<bool, FileFault> {
+    let path = target.path(rt.alloc(), name)?;
+    is_there(rt, path.as_str())
 }
 
 /// Removes the regular files of some names, the last first, whose digests go too, and writes that to the disk. Another thing under one of
@@ -158,15 +171,19 @@ pub(crate) fn remove_names<F: Folder>(
     }
     match take_files(files, paths) {
         Ok(None) => Ok(()),
-        Ok(Some(index)) => Err(no_file(alloc, names, index)?),
+        Ok(Some(index)) => Err(no_file(alloc, names, index)),
         Err(NameFault { name, error }) => Err(device(alloc, name.as_str(), error)),
     }
 }
 
 /// That the name at an index has no regular file.
-fn no_file(alloc: Global, names: &[String], index: usize) -> Result<FileFault, AllocError> {
-    let name = names.get(index).map_or("", |name| name.as_str());
-    Ok(FileFault::Refused {
-        what: format!(in alloc; "{name}: is no regular file, and isn't removed")?,
-    })
+fn no_file(alloc: Global, names: &[String], index: usize) -> FileFault {
+    let name = match names.get(index) {
+        Some(name) => name.as_str(),
+        None => "",
+    };
+    match format!(in alloc; "{name}: is no regular file, and isn't removed") {
+        Ok(what) => FileFault::Refused { what },
+        Err(AllocError) => FileFault::OutOfMemory,
+    }
 }

@@ -9,7 +9,7 @@ use crate::encoding::Given;
 use crate::encoding::placing::{Made, discard_all, first_of};
 use folders::Folder;
 use lrc_code::Place;
-use std::alloc::Global;
+use std::alloc::{AllocError, Global};
 use std::io::{self, ErrorKind};
 use std::thread::{Threads, join};
 use store_faults::{FileFault, device, source_fault};
@@ -56,7 +56,10 @@ pub(crate) fn source_digest(rt: &HostRuntime, given: &Given<'_>) -> Result<Diges
     if let Some(digest) = given.digest {
         return Ok(digest);
     }
-    read_digest(rt, given).map_err(|error| source_fault(rt.alloc(), given.path, error))
+    match read_digest(rt, given) {
+        Ok(digest) => Ok(digest),
+        Err(error) => Err(source_fault(rt.alloc(), given.path, error)),
+    }
 }
 
 /// The digest of a file that is encoded, which has to have as many bytes as before.
@@ -80,21 +83,42 @@ fn make_fragments(
     let alloc = rt.alloc();
     let path = given.path;
     let length = given.before.len();
-    let file = open_fragment(rt, path, length, Links::Followed).map_err(|error| source_fault(
-        alloc, path, error,
-    ))?;
+    let file = match open_fragment(rt, path, length, Links::Followed) {
+        Ok(file) => file,
+        Err(error) => return Err(source_fault(alloc, path, error)),
+    };
     let source = CountedSource {
         file,
         rt,
         progress: given.progress,
     };
+    make_from(rt, target, name, given, &source)
+}
+
+/// Makes the fragments of a file that is open, under temporary names.
+fn make_from<F: Fragment>(
+    rt: &HostRuntime,
+    target: &Target<'_>,
+    name: &str,
+    given: &Given<'_>,
+    source: &F,
+) -> Result<Vec<Made>, FileFault> {
     // Taken before there are files, so that none is left where memory is refused.
-    let mut made = Vec::with_capacity(alloc, target.code.places().len())?;
+    let made = Vec::with_capacity(rt.alloc(), target.code.places().len())?;
     let mut files = new_files(rt, target, name)?;
-    let digests = match fill(rt, target, name, given, &source, files.as_mut_slice()) {
-        Ok(digests) => digests,
-        Err(fault) => return Err(first_of(discard_files(rt, target, files), fault)),
-    };
+    match fill(rt, target, name, given, source, files.as_mut_slice()) {
+        Ok(digests) => Ok(all_made(made, files, digests)?),
+        Err(fault) => Err(first_of(discard_files(rt, target, files), fault)),
+    }
+}
+
+/// Adds each new file with the digest at its index.
+fn all_made(
+    made: Vec<Made>,
+    files: Vec<NewFile>,
+    digests: Vec<Digest>,
+) -> Result<Vec<Made>, AllocError> {
+    let mut made = made;
     for (file, digest) in files.into_iter().zip(digests) {
         made.push(Made { file, digest })?;
     }
@@ -175,7 +199,10 @@ fn discard_files(
     for file in files {
         done = file.discard(rt).and(done);
     }
-    done.map_err(|error| device(rt.alloc(), target.folder, error))
+    match done {
+        Ok(()) => Ok(()),
+        Err(error) => Err(device(rt.alloc(), target.folder, error)),
+    }
 }
 
 /// The digests of new files of so many bytes, which are read again.

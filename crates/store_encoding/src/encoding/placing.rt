@@ -7,6 +7,7 @@ ghost use Rattle.store_folder.specs.Temporary.{is_temporary};
 ghost use Rattle.store_encoding.specs.Encoded.{AreDone, AreThere, GivesEach, IsDueAt, contents_of};
 
 use folders::{Folder, SystemNew};
+use std::alloc::AllocError;
 use std::io::{self, ErrorKind};
 use store_faults::{FileFault, device};
 use store_files::{Target, digest_at, is_there};
@@ -20,7 +21,7 @@ pub(crate) struct Made<N: folders::NewFile = SystemNew> {
 }
 
 /// What is under a name.
-#[derive(Clone, Copy, PartialEq, Eq)]
+#[derive(Clone, Copy)]
 enum There {
     Nothing,
     TheSame,
@@ -28,11 +29,14 @@ enum There {
 }
 
 /// That a name of the store is taken.
-pub(crate) fn is_there_already(rt: &HostRuntime, name: &str) -> Result<FileFault, FileFault> {
+pub(crate) fn is_there_already(rt: &HostRuntime, name: &str) -> FileFault {
     let what = format!(in rt.alloc();
         "{name}: is there already, with other bytes: --replace replaces the file"
-    )?;
-    Ok(FileFault::Refused { what })
+    );
+    match what {
+        Ok(what) => FileFault::Refused { what },
+        Err(AllocError) => FileFault::OutOfMemory,
+    }
 }
 
 /// Removes new files, all that can be removed.
@@ -101,8 +105,8 @@ pub(crate) fn place_fragments<F: Folder>(
     match first_taken(rt, target, names, length, made.as_slice()) {
         Ok(None) => place_each(rt, files, target, names, length, made),
         Ok(Some(name)) => {
-            discard_all(rt, files, target.folder, made)?;
-            Err(is_there_already(rt, name)?)
+            let removed = discard_all(rt, files, target.folder, made);
+            Err(first_of(removed, is_there_already(rt, name)))
         }
         Err(fault) => Err(first_of(discard_all(rt, files, target.folder, made), fault)),
     }
@@ -174,7 +178,7 @@ fn first_taken<'n, N: folders::NewFile>(
         let path = target.path(rt.alloc(), name.as_str())?;
         let digest = made_file.digest;
         let there = what_is_there(rt, path.as_str(), length as u64, &digest, target.links)?;
-        if there == There::Another {
+        if matches!(there, There::Another) {
             return Ok(Some(name.as_str()));
         }
     }
@@ -227,8 +231,8 @@ fn note_placed(
     if placed == Placed::IsThere {
         let path = target.path(alloc, name)?;
         let there = what_is_there(rt, path.as_str(), length, &digest, target.links)?;
-        if there != There::TheSame {
-            return Err(is_there_already(rt, name)?);
+        if !matches!(there, There::TheSame) {
+            return Err(is_there_already(rt, name));
         }
     }
     if target.sums.digest_of(name).copied() != Some(digest) {

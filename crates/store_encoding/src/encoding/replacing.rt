@@ -12,7 +12,7 @@ ghost use Rattle.store_encoding.specs.Replaced.{AllGot, GivesOnly, Goes, IsGiven
 use crate::encoding::source::no_name;
 use crate::encoding::stripe_files::{StripeFiles, are_apart};
 use crate::encoding::subfolders::make_folders;
-use crate::encoding::sums::write_new_sums;
+use crate::encoding::sums::{forget_digests, write_new_sums};
 use crate::encoding::{Given, encode_as};
 use crate::own_folders::remove_own_folders;
 use crate::removing::remove_names;
@@ -38,7 +38,7 @@ pub(crate) fn replace<R: Threads + Sync>(
     make_folders(rt, target, staged.as_str())?;
     if let Err(fault) = encode_as(threads, rt, target, staged.as_str(), given) {
         // Takes away what is there of it, as far as that can be done now.
-        let _ = finish_replacing(rt, target, name);
+        drop(finish_replacing(rt, target, name));
         return Err(fault);
     }
     finish_replacing(rt, target, name)
@@ -51,9 +51,17 @@ pub(crate) fn finish_replacing(
     target: &mut Target<'_>,
     name: &str,
 ) -> Result<(), FileFault> {
-    let alloc = rt.alloc();
-    let staged = staged_name(alloc, name)?;
-    let staged = staged.as_str();
+    let staged = staged_name(rt.alloc(), name)?;
+    finish_staged(rt, target, name, staged.as_str())
+}
+
+/// The same of the stripe that was to replace it, by the name of that.
+fn finish_staged(
+    rt: &HostRuntime,
+    target: &mut Target<'_>,
+    name: &str,
+    staged: &str,
+) -> Result<(), FileFault> {
     let file = StoredFile {
         folder: target.folder,
         pattern: target.pattern,
@@ -64,11 +72,24 @@ pub(crate) fn finish_replacing(
     if !is_begun(rt, &file, target.code)? {
         return Ok(());
     }
-    let mut begun = StripeFiles::of(alloc, target, staged)?;
-    let mut replaced = StripeFiles::of(alloc, target, name)?;
-    add_own_description(rt, target, name, &mut begun, &mut replaced)?;
-    replace_begun(rt, target, &file, name, &begun, &replaced)?;
+    replace_files(rt, target, &file, name)?;
     Ok(remove_own_folders(rt, target, staged, name)?)
+}
+
+/// Replaces the files of a stripe by those of one that has been begun, if these are whole, and else removes these.
+fn replace_files(
+    rt: &HostRuntime,
+    target: &mut Target<'_>,
+    file: &StoredFile<'_, '_>,
+    name: &str,
+) -> Result<(), FileFault> {
+    let alloc = rt.alloc();
+    let mut begun = StripeFiles::of(alloc, target, file.name)?;
+    let mut replaced = StripeFiles::of(alloc, target, name)?;
+    match add_own_description(rt, target, file.name, name, &mut begun, &mut replaced) {
+        Ok(()) => replace_begun(rt, target, file, name, &begun, &replaced),
+        Err(fault) => Err(fault),
+    }
 }
 
 /// Adds the name of the description of a stripe in the store's own folder, if it has one, and beside it that of the stripe which is to
@@ -76,18 +97,16 @@ pub(crate) fn finish_replacing(
 fn add_own_description(
     rt: &HostRuntime,
     target: &Target<'_>,
+    staged: &str,
     name: &str,
     begun: &mut StripeFiles,
     replaced: &mut StripeFiles,
 ) -> Result<(), FileFault> {
-    let alloc = rt.alloc();
     if let Some(own) = own_description(rt, target, name)? {
         // Nothing has the other name, so that it goes as an old fragment does whose new one was lost.
         replaced.fragments.push(own)?;
-        let staged = staged_name(alloc, name)?;
-        begun
-            .fragments
-            .push(first_description_name(alloc, staged.as_str())?)?;
+        let other = first_description_name(rt.alloc(), staged)?;
+        begun.fragments.push(other)?;
     }
     Ok(())
 }
@@ -104,7 +123,7 @@ fn replace_begun(
     refuse_linked(rt, target, begun.descriptions.as_slice())?;
     refuse_linked(rt, target, begun.fragments.as_slice())?;
     if !are_apart(target.folder, begun, replaced) {
-        return Err(no_name(rt, name)?);
+        return Err(no_name(rt, name));
     }
     let files = &mut SystemFolder::new(rt);
     let is_whole = first_described(rt, file)?.is_some();
@@ -147,16 +166,6 @@ fn remove_all<F: Folder>(
 {
     remove_names(rt, files, target, begun.descriptions.as_slice())?;
     remove_names(rt, files, target, begun.fragments.as_slice())
-}
-
-/// Takes the digests of some names out of those of the store.
-fn forget_digests(target: &mut Target<'_>, names: &[String])
-    ensures folder { target.new.folder ≡ target.old.folder }
-    ensures sums { KeepsDigests names.now target.old.sums target.new.sums }
-{
-    'names: for name in names {
-        target.is_changed = target.sums.remove(name.as_str()) || target.is_changed;
-    }
 }
 
 /// Gives the files of a stripe the names of another one's too, in place of what has these, its descriptions last. Whenever that ends, each

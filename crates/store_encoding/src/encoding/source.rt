@@ -12,20 +12,25 @@ pub(crate) fn stripe_name<'a>(rt: &HostRuntime, path: &'a str) -> Result<&'a str
         None => path,
     };
     if name.is_empty() || name == "." || name == ".." || name == "lost+found" || is_of_runs(name) {
-        return Err(no_name(rt, path)?);
+        return Err(no_name(rt, path));
     }
     Ok(name)
 }
 
 /// That the name of the file at a path is none for a stripe.
-pub(crate) fn no_name(rt: &HostRuntime, path: &str) -> Result<FileFault, AllocError> {
-    let what = format!(in rt.alloc(); "{path}: a stripe can't have this name")?;
-    Ok(FileFault::Refused { what })
+pub(crate) fn no_name(rt: &HostRuntime, path: &str) -> FileFault {
+    match format!(in rt.alloc(); "{path}: a stripe can't have this name") {
+        Ok(what) => FileFault::Refused { what },
+        Err(AllocError) => FileFault::OutOfMemory,
+    }
 }
 
 /// What is said of the regular file at a path.
 pub(crate) fn regular(rt: &HostRuntime, path: &str) -> Result<Metadata, FileFault> {
-    let metadata = fs::metadata(rt, path).map_err(|error| device(rt.alloc(), path, error))?;
+    let metadata = match fs::metadata(rt, path) {
+        Ok(metadata) => metadata,
+        Err(error) => return Err(device(rt.alloc(), path, error)),
+    };
     if !metadata.is_file() {
         let what = format!(in rt.alloc(); "{path}: is no regular file")?;
         return Err(FileFault::Refused { what });

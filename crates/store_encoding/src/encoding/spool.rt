@@ -19,8 +19,10 @@ impl Spool {
     /// Writes standard input to a new file in a folder, which nobody but its user may read.
     pub fn fill(rt: &HostRuntime, folder: &str) -> Result<Spool, FileFault> {
         let alloc = rt.alloc();
-        let file = create_private(rt, &mut SystemFolder::new(rt), folder);
-        let mut file = file.map_err(|error| device(alloc, folder, error))?;
+        let mut file = match create_private(rt, &mut SystemFolder::new(rt), folder) {
+            Ok(file) => file,
+            Err(error) => return Err(device(alloc, folder, error)),
+        };
         match copy(rt, &mut file, folder) {
             Ok(()) => Ok(Spool { file }),
             Err(fault) => {
@@ -37,21 +39,32 @@ impl Spool {
 
     /// Removes the file.
     pub fn remove(self, rt: &HostRuntime, folder: &str) -> Result<(), FileFault> {
-        self.file
-            .discard(rt)
-            .map_err(|error| device(rt.alloc(), folder, error))
+        match self.file.discard(rt) {
+            Ok(()) => Ok(()),
+            Err(error) => Err(device(rt.alloc(), folder, error)),
+        }
     }
 }
 
 /// Writes standard input to a new file in a folder.
 fn copy(rt: &HostRuntime, file: &mut NewFile, folder: &str) -> Result<(), FileFault> {
+    let mut block = Vec::from_elem(rt.alloc(), 0u8, BLOCK)?;
+    copy_by(rt, file, folder, block.as_mut_slice())
+}
+
+/// Writes standard input to a new file in a folder, by way of a block of bytes.
+fn copy_by(
+    rt: &HostRuntime,
+    file: &mut NewFile,
+    folder: &str,
+    block: &mut [u8],
+) -> Result<(), FileFault> {
     let alloc = rt.alloc();
     let most = most_file_bytes(rt).unwrap_or(u64::MAX);
-    let mut block = Vec::from_elem(alloc, 0u8, BLOCK)?;
     let mut input = rt.stdin();
     let mut written = 0u64;
     for _read in 0..u64::MAX {
-        let many = match input.read(block.as_mut_slice()) {
+        let many = match input.read(block) {
             Ok(0) => return Ok(()),
             Ok(many) => many,
             Err(error) if error.kind() == ErrorKind::Interrupted => continue,
@@ -61,10 +74,10 @@ fn copy(rt: &HostRuntime, file: &mut NewFile, folder: &str) -> Result<(), FileFa
         if written > most {
             return Err(of_input(alloc, too_long()));
         }
-        let all = block.as_slice();
-        let (bytes, _) = all.split_at(many.min(all.len()));
-        file.append(bytes)
-            .map_err(|error| device(alloc, folder, error))?;
+        let (bytes, _) = block.split_at(many.min(block.len()));
+        if let Err(error) = file.append(bytes) {
+            return Err(device(alloc, folder, error));
+        }
     }
     Ok(())
 }

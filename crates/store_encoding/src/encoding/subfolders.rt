@@ -1,4 +1,5 @@
 //! The folders of a stripe's fragments.
+use std::alloc::AllocError;
 use std::fs;
 use std::io::{self, ErrorKind};
 use store_faults::{FileFault, device};
@@ -12,25 +13,35 @@ pub(crate) fn make_folders(
     target: &Target<'_>,
     stripe: &str,
 ) -> Result<(), FileFault> {
+    let folders = stripe_folders(rt.alloc(), &target.pattern, target.code, stripe)?;
+    for inside in &folders {
+        make_each(rt, target, inside.as_str())?;
+    }
+    Ok(())
+}
+
+/// Makes a folder in the store, and those that it is in.
+fn make_each(rt: &HostRuntime, target: &Target<'_>, inside: &str) -> Result<(), FileFault> {
     let alloc = rt.alloc();
-    for inside in stripe_folders(alloc, &target.pattern, target.code, stripe)? {
-        let mut name = String::new(alloc);
-        for part in inside.split('/') {
-            if part.is_empty() {
-                continue;
-            }
-            if !name.is_empty() {
-                name.push('/')?;
-            }
-            name.push_str(part)?;
-            make_folder(rt, target, name.as_str()).map_err(|error| device(
-                alloc,
-                name.as_str(),
-                error,
-            ))?;
+    let mut name = String::new(alloc);
+    for part in inside.split('/') {
+        if part.is_empty() {
+            continue;
+        }
+        add_part(&mut name, part)?;
+        if let Err(error) = make_folder(rt, target, name.as_str()) {
+            return Err(device(alloc, name.as_str(), error));
         }
     }
     Ok(())
+}
+
+/// Adds the name of a folder that is in the one of a name.
+fn add_part(name: &mut String, part: &str) -> Result<(), AllocError> {
+    if !name.is_empty() {
+        name.push('/')?;
+    }
+    name.push_str(part)
 }
 
 /// Makes the folder of a name in the store, unless it is there, and writes its name to the disk.

@@ -2,10 +2,12 @@
 ghost use Rattle.std.specs.Prelude.{◌≡◌, ℕ, List, Option, OnOk, IfSome, IsSome, Some, true};
 ghost use Rattle.folders.specs.Disk.{IsOnDisk};
 ghost use Rattle.store_folder.specs.Written.{Puts, PutsOne};
+ghost use Rattle.store_encoding.specs.Digests.{KeepsDigests};
 ghost use Rattle.store_encoding.specs.Names.{sums_path};
 ghost use Rattle.store_encoding.specs.Replaced.{IsSums, IsTextOf};
 
 use folders::Folder;
+use std::alloc::{AllocError, Global};
 use std::io::{self, ErrorKind};
 use store_faults::{FileFault, device};
 use store_files::Target;
@@ -23,9 +25,25 @@ pub fn stored_sums(rt: &HostRuntime, folder: &str) -> Result<Sums, FileFault> {
             Ok(Sums::new(alloc))
         }
         Err(SumsFault::Unread { error }) => Err(device(alloc, path.as_str(), error)),
-        Err(fault) => Err(FileFault::Refused {
-            what: format!(in alloc; "{path}: {fault}")?,
-        }),
+        Err(fault) => Err(no_sums(alloc, path.as_str(), &fault)),
+    }
+}
+
+/// That what is at a path are no digests.
+fn no_sums(alloc: Global, path: &str, fault: &SumsFault) -> FileFault {
+    match format!(in alloc; "{path}: {fault}") {
+        Ok(what) => FileFault::Refused { what },
+        Err(AllocError) => FileFault::OutOfMemory,
+    }
+}
+
+/// Takes the digests of some names out of those of the store.
+pub(crate) fn forget_digests(target: &mut Target<'_>, names: &[String])
+    ensures folder { target.new.folder ≡ target.old.folder }
+    ensures sums { KeepsDigests names.now target.old.sums target.new.sums }
+{
+    'names: for name in names {
+        target.is_changed = target.sums.remove(name.as_str()) || target.is_changed;
     }
 }
 

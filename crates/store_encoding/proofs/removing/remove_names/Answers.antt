@@ -33,16 +33,12 @@ names-preserved g c =
           c.in_ok-push.ensures.items named among c.names.invariant.named;
     }
 
-pub returns-in_err-no_file-in-Ok-Some-clause-gone : goal.returns-in_err-no_file-in-Ok-Some-clause-gone
-returns-in_err-no_file-in-Ok-Some-clause-gone g c = goes_named c.args.target.now.folder.now c.names.paths.items c.args.names.now
+pub returns-in-Ok-Some-clause-gone : goal.returns-in-Ok-Some-clause-gone
+returns-in-Ok-Some-clause-gone g c = goes_named c.args.target.now.folder.now c.names.paths.items c.args.names.now
     c.names.invariant.named _ _ c.take_files.ensures.gone
 
 pub returns-in-Ok-None-clause-gone : goal.returns-in-Ok-None-clause-gone
 returns-in-Ok-None-clause-gone g c = goes_named c.args.target.now.folder.now c.names.paths.items c.args.names.now
-    c.names.invariant.named _ _ c.take_files.ensures.gone
-
-pub returns-in_ok-no_file-in-Ok-Some-clause-gone : goal.returns-in_ok-no_file-in-Ok-Some-clause-gone
-returns-in_ok-no_file-in-Ok-Some-clause-gone g c = goes_named c.args.target.now.folder.now c.names.paths.items c.args.names.now
     c.names.invariant.named _ _ c.take_files.ensures.gone
 
 pub returns-in-Err-clause-gone : goal.returns-in-Err-clause-gone

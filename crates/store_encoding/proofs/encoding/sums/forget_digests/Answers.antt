@@ -1,6 +1,6 @@
 use Rattle.std.proofs.Common.{sym, None, string_bytes}
 use Rattle.store_encoding.proofs.Digests.{changes_among, changes_one}
-use Rattle.store_encoding.proofs.encoding.replacing.forget_digests.Goals as goal
+use Rattle.store_encoding.proofs.encoding.sums.forget_digests.Goals as goal
 
 pub names-preserved : goal.names-preserved
 names-preserved c = record {

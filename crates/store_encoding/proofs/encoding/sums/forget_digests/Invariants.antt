@@ -1,6 +1,6 @@
 use Rattle.std.proofs.Common.{◌≡◌}
 use Rattle.store_encoding.specs.Digests.{KeepsDigests}
-use Rattle.store_encoding.proofs.encoding.replacing.forget_digests.Given as goal
+use Rattle.store_encoding.proofs.encoding.sums.forget_digests.Given as goal
 
 abbrev pub invariant-names : goal.invariant-names
 invariant-names l = record {
