@@ -48,6 +48,7 @@ What the gate took. First rt ci, by crates, in seconds of its processes' process
   proof       the crate's proof, and building it if it is a program
   tests       the proof of its tests, and building them
   from, to    minutes and seconds after rt ci began, when it was first and last at work on the crate, which may have waited in between
+How fast the machine is shows in list_members, which has no function: its proof took 4 to 12 s on those seen, and all others in proportion.
 """
 
 
