@@ -32,6 +32,8 @@ DECODED = runpy.run_path(str(ROOT / "gate/store-decoder.py"))["decoded"]
 DISKS = ["--names", "disk{shard}/{stripe}"]
 CODED = [*DISKS, "--code", "6-2-2"]
 STAGED = ".rebuild-store-new"
+# What a run that was killed has left: the digits are at random.
+LEFTOVER = ".rebuild-store-0123456789abcdef"
 PLACES = ("x0", "x1", "x2", "y0", "y1", "y2", "px", "py", "p0", "p1")
 SECONDS = 120
 passed, skipped, faults = 0, [], []
@@ -299,6 +301,13 @@ def test_replace_killed(place, choose):
         read = ran("read", store, "a")
         hold(read.returncode == 0 and read.stdout in (old, new), f"{where}: {read.returncode} {read.stderr!r}")
         hold(old == read.stdout or new in (decoded(store, "a"), decoded(store, f"a{STAGED}")), f"{where}: nothing has the new file")
+        # Also where the disk with the first fragments is lost then.
+        first_ones = [path for path in (store / "a.x0", store / f"a{STAGED}.x0") if path.exists()]
+        kept = [path.rename(path.with_name(f"kept-{path.name}")) for path in first_ones]
+        read = ran("read", store, "a")
+        hold(read.returncode == 0 and read.stdout in (old, new), f"{where}, without x0: {read.returncode} {read.stderr!r}")
+        for path in kept:
+            path.rename(path.with_name(path.name.removeprefix("kept-")))
         if number % 2:
             run("encode", "--replace", store, place / "a", status=0)
             hold(decoded(store, "a") == new, f"{where}: not the new file after the same command")
@@ -335,6 +344,10 @@ def test_replace_failing(place, choose):
         read = ran("read", store, "a")
         hold(read.returncode == 0 and read.stdout in (old, new), f"{where}: {read.returncode} {read.stderr!r}")
         hold(ended.status != 0 or read.stdout == new, f"{where}: status 0, and not the new file")
+        # What was begun is taken away, and so is what has no name yet. Once all fragments have theirs the file is as good as there.
+        left = [it for it in there(store) if "rebuild-store" in it]
+        is_early = kinds[:number].count("link") < len(PLACES) + 2
+        hold(kinds[number - 1] == "unlink" or not [it for it in left if is_early or STAGED not in it], f"{where}: left {left}")
         run(*command[1:], status=0)
         hold(decoded(store, "a") == new, f"{where}: not the new file after the same command")
         hold(are_right(store) and not [it for it in there(store) if "rebuild-store" in it], f"{where}: left {sorted(there(store))}")
@@ -342,6 +355,58 @@ def test_replace_failing(place, choose):
 
     with concurrent.futures.ThreadPoolExecutor(os.cpu_count()) as pool:
         [*pool.map(one, range(1, len(kinds) + 1))]
+
+
+def test_files_that_come_meanwhile(place, choose):
+    """What another program puts under one of a file's names while this is encoded stays, and the file isn't said to be encoded."""
+    calls, data = Calls(place), choose.randbytes(900)
+    file = source(place, "a", data)
+    kinds = calls.run([PROGRAM, "encode", place / "count", file]).kinds
+    links = [number for number, kind in enumerate(kinds, 1) if kind == "link"]
+    hold(len(links) == len(PLACES) + 2, f"{kinds}")
+    for number in links:
+        store = place / f"came-{number}"
+        ended = calls.run([PROGRAM, "encode", store, file], number, "meanwhile")
+        came = store / pathlib.Path(ended.paths[1]).name
+        hold(ended.status == 1 and f"{came.name}: is there already" in ended.err and came.read_bytes() == b"m", ended.text())
+        hold(not (store / "SHA256SUMS").exists() or came.name not in sums_of(store), f"{came.name}: what came has a digest")
+        came.unlink()
+        run("encode", store, file, status=0)
+        hold(decoded(store, "a") == data and are_right(store), f"{came.name}: not the file after the same command")
+
+
+def test_order_of_calls(place, choose):
+    """What is written is on the disk before it gets a name, and the names are before the run ends: also those of folders that are made."""
+    calls, store, file = Calls(place), place / "store", source(place, "a", choose.randbytes(900))
+    names, ordered = ["--names", "{stripe}/{place}"], []
+
+    def is_ordered(*words):
+        """Whether a run that ends well syncs each file between its last write and its name, and something after the last name."""
+        ended = calls.run([PROGRAM, *words])
+        ordered.append(ended.kinds)
+        unsynced, unnamed = False, False
+        for kind in ended.kinds:
+            if kind in ("link", "rename") and unsynced:
+                return False
+            unsynced = kind == "write" or unsynced and kind != "sync"
+            unnamed = kind in ("link", "rename", "mkdir") or unnamed and kind != "sync"
+        return ended.status == 0 and not unnamed
+
+    hold(is_ordered("encode", "--make-folders", *names, store, file), f"encode: {ordered[-1]}")
+    # The store's own folder is made first, and then the one in it.
+    made = [number for number, kind in enumerate(ordered[-1], 1) if kind == "mkdir"]
+    for number, above in zip(made, (place, store), strict=True):
+        sync = number + 1 + ordered[-1][number:].index("sync")
+        shutil.rmtree(store)
+        ended = calls.run([PROGRAM, "encode", "--make-folders", *names, store, file], sync, 5)
+        hold(ended.paths == (str(above),), f"a folder that was made isn't written to the disk: {ended.paths}")
+        run("encode", "--make-folders", *names, store, file, status=0)
+    for damaged in (False, True):
+        (store / "a/x1").write_bytes(bytes(150)) if damaged else (store / "a/x1").unlink()
+        (store / "a/a.file.copy").unlink()
+        hold(is_ordered("repair", "--replace-damaged", *names, store), f"repair: {ordered[-1]}")
+    file.write_bytes(choose.randbytes(1_000))
+    hold(is_ordered("encode", "--replace", *names, store, file), f"encode --replace: {ordered[-1]}")
 
 
 def test_remove(place, choose):
@@ -362,6 +427,14 @@ def test_remove(place, choose):
     (store / "a.x1.damaged").unlink()
     hold(are_right(store), "digests of what is gone are left")
     run("scrub", store, status=0)
+    run("encode", store, source(place, "c", b"c"), status=0)
+    (store / LEFTOVER).write_bytes(b"half")
+    calls = Calls(place)
+    shutil.copytree(store, place / "count")
+    unlink = calls.run([PROGRAM, "remove", place / "count", "c"]).kinds.index("unlink") + 1
+    ended = calls.run([PROGRAM, "remove", store, "c"], unlink, 5)
+    hold(ended.status == 3 and ended.out == "removed 1 file; not removed: 0\n" and (store / LEFTOVER).exists(), ended.text())
+    (store / LEFTOVER).unlink()
     (store / "b.p1").unlink()
     (store / "b.p1").mkdir()
     _, err = run("remove", store, "b", status=1)
@@ -521,11 +594,17 @@ def test_limit_on_length(place, choose):
     file = source(place, "a", data)
 
     def limited():
-        resource.setrlimit(resource.RLIMIT_FSIZE, (20_480, 20_480))
+        # It is the soft limit that ends a run.
+        resource.setrlimit(resource.RLIMIT_FSIZE, (20_480, resource.getrlimit(resource.RLIMIT_FSIZE)[1]))
 
     _, err = run("encode", store, file, status=1, preexec_fn=limited)
     hold("a: would have 50000 bytes, and no file may get more than 20480 here: ulimit -f" in err and not there(store), err)
     run("encode", store, file, status=0)
+    # One with as many bytes as a file may get is written, also beside longer ones of which nothing is lost.
+    run("encode", store, source(place, "fits", bytes(6 * 20_480)), status=0, preexec_fn=limited)
+    (store / "fits.x0").unlink()
+    run("repair", store, status=0, preexec_fn=limited)
+    run("remove", store, "fits", status=0)
     (store / "a.x0").unlink()
     files = there(store)
     _, err = run("repair", store, status=1, preexec_fn=limited)

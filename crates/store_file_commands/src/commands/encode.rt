@@ -8,7 +8,7 @@ use store_arguments::EncodeOptions;
 use store_encoding::{SourceFile, Spool, encode_file, stored_sums, write_new_sums};
 use store_faults::{FileFault, StoreFault, device};
 use store_files::Target;
-use store_folder::SystemFolder;
+use store_folder::{SystemFolder, folder_of, sync_folder};
 use store_listing::{Listing, Others, Wanted, list};
 use store_opening::{
     Locks, other_than, refuse_unmounted, refuse_untrusted, remove_leftovers, say_links,
@@ -145,11 +145,15 @@ fn encode_one<R: Threads + Sync>(
     removed
 }
 
-/// Makes the store's folder, unless it is there.
+/// Makes the store's folder, unless it is there, and writes its name to the disk.
 fn make_folder(rt: &HostRuntime, folder: &str) -> Result<(), FileFault> {
-    match fs::create_dir(rt, folder) {
-        Ok(()) => Ok(()),
+    let made = match fs::create_dir(rt, folder) {
+        Ok(()) => sync_folder(rt, folder_of(folder.trim_end_matches('/'))),
         Err(error) if error.kind() == ErrorKind::AlreadyExists => Ok(()),
+        Err(error) => Err(error),
+    };
+    match made {
+        Ok(()) => Ok(()),
         Err(error) => Err(device(rt.alloc(), folder, error)),
     }
 }
