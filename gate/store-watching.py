@@ -279,6 +279,8 @@ def test_output_that_ends(place, choose):
         check(is_whole(store, all_of_it), "the store isn't whole")
         for path in store.glob("*.x1"):
             path.unlink()
+        with open(target, "w") as full:
+            check(subprocess.run([PROGRAM, "--help"], stdout=full, timeout=60).returncode == 3, "help that can't be written is called done")
     process = start("repair", "--json", store)
     process.stdout.close()
     said = process.stderr.read()
