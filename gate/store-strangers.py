@@ -161,6 +161,14 @@ def test_report_keeps_rights(place, choose):
     hold(about.st_mode & 0o7777 == 0o600, f"a report of mode 600 has now {about.st_mode & 0o7777:o}")
     hold(not is_root() or about.st_uid == OTHER, "a report has another owner now")
     hold(report.read_text() == HEADER, report.read_text())
+    # In a folder in which the user may make no file it is written as it is.
+    if is_root():
+        (place / "closed").mkdir()
+        report = place / "closed/report.csv"
+        report.write_text("old" * 100)
+        report.chmod(0o666)
+        run("scrub", store, "--report", report, status=0, **as_user(place))
+        hold(report.read_text() == HEADER, report.read_text())
 
 
 def test_report_in_the_store(place, choose):
@@ -1105,6 +1113,73 @@ def test_stripe_that_changes_meanwhile(place, choose):
     hold((store / "s.x1").read_bytes() == after["x1"], "what was rebuilt isn't of the new stripe")
 
 
+def test_fragment_that_comes_meanwhile(place, choose):
+    """What another program puts under a fragment's name stays, also if it has as many bytes as what was rebuilt."""
+    store = place / "came"
+    files = lay(store, choose, length=1)
+    lost = next(name for name in files if files[name] != b"m")
+    (store / lost).unlink()
+    calls = Calls(place)
+    command = [PROGRAM, "repair", store, "--workers", "1"]
+    link = calls.run(command).kinds.index("link") + 1
+    (store / lost).unlink()
+    ran = calls.run(command, link, "meanwhile")
+    hold(ran.status == 1 and "has come meanwhile" in ran.err and (store / lost).read_bytes() == b"m", ran.text())
+
+
+def test_names_that_others_give_meanwhile(place, choose):
+    """A link that comes under a fragment's name before this is opened isn't followed, and a new file that is taken away before it is locked
+    is made anew."""
+    store, other = place / "given", place / "given-other"
+    files = lay(store, choose)
+    other.write_bytes(bytes(600))
+    calls = Calls(place)
+    command = [PROGRAM, "scrub", store, "--workers", "1"]
+    opens = [number for number, kind in enumerate(calls.run(command).kinds, 1) if kind == "open"]
+    number = next(number for number in opens if calls.run(command, number, errno.EIO).paths[0].endswith("s.x1"))
+    with waiting(calls, place, command, number) as go_on:
+        (store / "s.x1").unlink()
+        (store / "s.x1").symlink_to(other)
+        status, said = go_on()
+        hold(status == 3 and "another file came under the name" in said, f"status {status}: {said}")
+    (store / "s.x1").unlink()
+    command = [PROGRAM, "repair", store, "--workers", "1"]
+    kinds = calls.run(command).kinds
+    (store / "s.x1").unlink()
+    with waiting(calls, place, command, len(kinds) - kinds[::-1].index("lock")) as go_on:
+        for path in store.glob(".rebuild-store-*"):
+            path.unlink()
+        status, said = go_on()
+        hold(status == 0 and there(store) == files, f"status {status}: {said}")
+
+
+def test_source_that_changes_meanwhile(place, choose):
+    """A file that is rewritten while it is encoded is refused, or encoded as it is then, at whichever of its openings that is."""
+    calls, store, source = Calls(place), place / "rewriting", place / "rewritten-source"
+    command, opens = [PROGRAM, "encode", store, source], []
+    source.write_bytes(choose.randbytes(6_000))
+    for number, kind in enumerate(calls.run(command).kinds, 1):
+        if kind == "open":
+            shutil.rmtree(store)
+            opens += [number] * (str(source) in calls.run(command, number, errno.EIO).paths)
+    refused = 0
+    for number in opens:
+        shutil.rmtree(store)
+        with waiting(calls, place, command, number) as go_on:
+            # What works beside the call that waits comes to its end.
+            time.sleep(0.2)
+            after = choose.randbytes(6_000)
+            source.write_bytes(after)
+            status, said = go_on()
+        if status != 0:
+            hold(status == 1 and "changed while it was read" in said, f"call {number}: status {status}: {said}")
+            refused += 1
+            continue
+        ended = subprocess.run([PROGRAM, "read", store, source.name], capture_output=True)
+        hold(ended.stdout == after, f"call {number}: another file was encoded: {ended.stderr.decode()}")
+    hold(refused > 0, f"no rewritten file was refused, at the calls {opens}")
+
+
 def test_lengths_that_nothing_decides(place, choose):
     """A stripe of whose files' lengths no check says which is right is left, and named by each command."""
     store = place / "undecided"
@@ -1432,6 +1507,10 @@ def test_line_within_a_stripe(place, choose):
             hold(status == 0 and len({it for it in seen if 0 < it < all_of_it}) > 1 and seen == sorted(seen),
                  f"{command} {fragment.name}: status {status}, {said!r}")
             hold(said.endswith("\x1b[A\r\x1b[K"), f"{command} left its line: {said!r}")
+            # The speed is cut to whole ones, so that one below 1 says nothing about the time.
+            for done, speed, minutes, seconds in re.findall(r"([\d.]+)/[\d.]+ MiB  ([1-9]\d*) MiB/s  (\d+):(\d\d) left", said):
+                rest, shown = all_of_it - float(done), int(minutes) * 60 + int(seconds)
+                hold(rest / (int(speed) + 1) - 2 <= shown <= rest / int(speed) + 2, f"{command} says another time: {said!r}")
         fragment.unlink()
 
 
