@@ -190,7 +190,7 @@ test:
 proofs:
 	tools/build.py settle
 	RT_JOBS=$(shell expr $$(nproc) + 2) tools/timed.py proofs --beside lrc_plan gate/library.sh --beside farm_files gate/refused.py \
-	  --then '$(MAKE) --no-print-directory --output-sync=target -j$(shell nproc) after' rt ci
+	  --then 'make --no-print-directory --output-sync=target -j$(shell nproc) after' rt ci
 
 after: $(AFTER)
 

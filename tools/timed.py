@@ -181,8 +181,7 @@ def proofs(beside, then, command):
             statuses = [end(command, ran, start)]
             if statuses == [0]:
                 start_beside(list(left))
-                # The descriptors by which make counts its jobs go to what it runs.
-                scripts += [subprocess.Popen(then, close_fds=False)] if then else []
+                scripts += [subprocess.Popen(then)] if then else []
                 statuses += [scripts[-1].wait()] if then else []
             statuses += [it.result() for it in waits]
         finally:
