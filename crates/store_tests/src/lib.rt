@@ -1,0 +1,27 @@
+//! Tests of names, records, reports and arguments of stores: tables that Python's own code gives, results that are made by hand, and lines
+//! of arguments. They are in a crate of their own, so that a check of the crates that they test proves these once and not a second time
+//! with their tests, and in one crate, since each costs the prover as much as ten small functions before its first.
+#![tactic(auto)]
+
+#[cfg(test)]
+mod asked;
+#[cfg(test)]
+mod asserting;
+#[cfg(test)]
+mod copies;
+#[cfg(test)]
+mod files;
+#[cfg(test)]
+mod fragments;
+#[cfg(test)]
+mod lines;
+#[cfg(test)]
+mod others;
+#[cfg(test)]
+mod records;
+#[cfg(test)]
+mod refused;
+#[cfg(test)]
+mod results;
+#[cfg(test)]
+mod words;
