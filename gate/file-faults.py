@@ -10,6 +10,7 @@ the same command again ends the work and leaves nothing behind. `read` never wri
 import concurrent.futures
 import dataclasses
 import errno
+import functools
 import hashlib
 import itertools
 import os
@@ -69,6 +70,16 @@ class Files:
     before: dict
     after: dict
 
+    @functools.cached_property
+    def sums(self):
+        """The list of digests before it."""
+        return sums_of({name: data for name, data in self.before.items() if not name.startswith(UNFINISHED)})
+
+    @functools.cached_property
+    def digests(self):
+        """Those of all that is there after it."""
+        return {name: hashlib.sha256(data).hexdigest() for name, data in self.after.items()}
+
     def lay(self, place):
         store = place / "store"
         store.mkdir(parents=True)
@@ -76,7 +87,7 @@ class Files:
             (place / name).write_bytes(data)
         for name, data in self.before.items():
             (store / name).write_bytes(data)
-        (store / SUMS).write_bytes(sums_of({name: data for name, data in self.before.items() if not name.startswith(UNFINISHED)}))
+        (store / SUMS).write_bytes(self.sums)
         return store
 
     def hold_names(self, store, ran):
@@ -91,7 +102,7 @@ class Files:
                 hold(not missing, f"a description is there without its fragments: {missing}: {ran.text()}")
         known = dict(line.split("  ")[::-1] for line in sums.decode().splitlines())
         for name, digest in known.items():
-            hold(digest == hashlib.sha256(self.after[name]).hexdigest(), f"a digest in {SUMS} is another: {name}: {ran.text()}")
+            hold(digest == self.digests[name], f"a digest in {SUMS} is another: {name}: {ran.text()}")
         hold(set(self.before) - {LEFTOVER} <= set(known), f"the list of digests is not whole: {ran.text()}")
 
     def hold_whole(self, store, ran):
