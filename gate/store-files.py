@@ -393,14 +393,31 @@ def test_order_of_calls(place, choose):
         return ended.status == 0 and not unnamed
 
     hold(is_ordered("encode", "--make-folders", *names, store, file), f"encode: {ordered[-1]}")
-    # The store's own folder is made first, and then the one in it.
-    made = [number for number, kind in enumerate(ordered[-1], 1) if kind == "mkdir"]
-    for number, above in zip(made, (place, store), strict=True):
-        sync = number + 1 + ordered[-1][number:].index("sync")
+    # The store's own folder is made first, and then the one in it. If a run is killed before it wrote the name of one to the disk, the next
+    # does so, though the folder is there.
+    words = [PROGRAM, "encode", "--make-folders", *names, store, file]
+
+    def sync_after(kinds, nth):
+        """The number of the call by which the name of the nth folder is written to the disk."""
+        made = [number for number, kind in enumerate(kinds, 1) if kind == "mkdir"][nth]
+        return made + 1 + kinds[made:].index("sync")
+
+    def cut(nth, how):
+        """A run that ends so where that is to be written."""
         shutil.rmtree(store)
-        ended = calls.run([PROGRAM, "encode", "--make-folders", *names, store, file], sync, 5)
+        return calls.run(words, sync_after(ordered[0], nth), how)
+
+    for nth, (above, said) in enumerate(((place, place), (store, "a"))):
+        ended = cut(nth, 5)
         hold(ended.paths == (str(above),), f"a folder that was made isn't written to the disk: {ended.paths}")
-        run("encode", "--make-folders", *names, store, file, status=0)
+        hold(ended.status == 3 and f"{said}: " in ended.err, ended.text())
+        cut(nth, "kill")
+        again = calls.run(words)
+        hold(again.status == 0, again.text())
+        cut(nth, "kill")
+        ended = calls.run(words, sync_after(again.kinds, nth), 5)
+        hold(ended.paths == (str(above),), f"a folder that a killed run made isn't written to the disk: {ended.paths}")
+        run(*words[1:], status=0)
     for damaged in (False, True):
         (store / "a/x1").write_bytes(bytes(150)) if damaged else (store / "a/x1").unlink()
         (store / "a/a.file.copy").unlink()

@@ -12,6 +12,7 @@ mod removing;
 mod taking;
 
 pub use encoding::spool::Spool;
+pub use encoding::subfolders::make_folder;
 pub use encoding::sums::{stored_sums, write_new_sums};
 pub use encoding::{SourceFile, encode_file};
 pub use removing::remove_stored;

@@ -7,7 +7,7 @@ use store_faults::{DEVICE, DONE, FileFault, device, say, write};
 use store_progress::Progress;
 
 /// Of how many files a command has done what it is for, and the exit status that the others ask for.
-#[derive(Clone, Copy, Debug)]
+#[derive(Clone, Copy)]
 pub(crate) struct Tally {
     pub(crate) done: u64,
     pub(crate) status: u8,
@@ -42,9 +42,11 @@ impl Tally {
                 self.done = self.done.saturating_add(1);
                 return Ok(());
             }
-            Err(FileFault::OutOfMemory) => return Err(AllocError),
             Err(fault) => fault,
         };
+        if matches!(&fault, FileFault::OutOfMemory) {
+            return Err(AllocError);
+        }
         if let Some(progress) = progress {
             progress.clear(rt);
         }

@@ -29,7 +29,7 @@ fn make_each(rt: &HostRuntime, target: &Target<'_>, inside: &str) -> Result<(), 
             continue;
         }
         add_part(&mut name, part)?;
-        if let Err(error) = make_folder(rt, target, name.as_str()) {
+        if let Err(error) = make_inside(rt, target, name.as_str()) {
             return Err(device(alloc, name.as_str(), error));
         }
     }
@@ -45,12 +45,29 @@ fn add_part(name: &mut String, part: &str) -> Result<(), AllocError> {
 }
 
 /// Makes the folder of a name in the store, unless it is there, and writes its name to the disk.
-fn make_folder(rt: &HostRuntime, target: &Target<'_>, name: &str) -> io::Result<()> {
+fn make_inside(rt: &HostRuntime, target: &Target<'_>, name: &str) -> io::Result<()> {
     refuse_linked_folders(rt, target.folder, name, target.links)?;
     let path = path_in(rt.alloc(), target.folder, name)?;
-    match fs::create_dir(rt, path.as_str()) {
-        Ok(()) => sync_folder(rt, folder_of(path.as_str())),
-        Err(error) if error.kind() == ErrorKind::AlreadyExists => Ok(()),
+    if make_folder(rt, path.as_str())? {
+        sync_folder(rt, folder_of(path.as_str()))?;
+    }
+    Ok(())
+}
+
+/// Makes a folder, unless it is there. Gives whether its name may not be on the disk: it is new, or it is empty, as what a run leaves that
+/// was killed before it wrote the name there.
+pub fn make_folder(rt: &HostRuntime, path: &str) -> io::Result<bool> {
+    match fs::create_dir(rt, path) {
+        Ok(()) => Ok(true),
+        Err(error) if error.kind() == ErrorKind::AlreadyExists => Ok(is_empty(rt, path)),
         Err(error) => Err(error),
+    }
+}
+
+/// Whether nothing is in a folder. Of one that can't be read that isn't known.
+fn is_empty(rt: &HostRuntime, path: &str) -> bool {
+    match fs::read_dir(rt, path) {
+        Ok(mut entries) => entries.next().is_none(),
+        Err(_) => false,
     }
 }

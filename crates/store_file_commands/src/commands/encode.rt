@@ -2,10 +2,9 @@
 use crate::tally::{Tally, released, write_line};
 use lrc_code::Code;
 use std::fs;
-use std::io::ErrorKind;
 use std::thread::Threads;
 use store_arguments::EncodeOptions;
-use store_encoding::{SourceFile, Spool, encode_file, stored_sums, write_new_sums};
+use store_encoding::{SourceFile, Spool, encode_file, make_folder, stored_sums, write_new_sums};
 use store_faults::{FileFault, StoreFault, device};
 use store_files::Target;
 use store_folder::{SystemFolder, folder_of, sync_folder};
@@ -22,7 +21,7 @@ pub fn encode<R: Threads + Sync>(
     rt: &HostRuntime,
     options: &EncodeOptions<'_>,
 ) -> Result<u8, FileFault> {
-    make_folder(rt, options.folder)?;
+    make_store(rt, options.folder)?;
     let locks = Locks::take(rt, options.folder, None)?;
     let status = encode_locked(threads, rt, options, &locks);
     released(rt, options.folder, status, locks.release(rt))
@@ -146,15 +145,16 @@ fn encode_one<R: Threads + Sync>(
 }
 
 /// Makes the store's folder, unless it is there, and writes its name to the disk.
-fn make_folder(rt: &HostRuntime, folder: &str) -> Result<(), FileFault> {
-    let made = match fs::create_dir(rt, folder) {
-        Ok(()) => sync_folder(rt, folder_of(folder.trim_end_matches('/'))),
-        Err(error) if error.kind() == ErrorKind::AlreadyExists => Ok(()),
-        Err(error) => Err(error),
-    };
-    match made {
+fn make_store(rt: &HostRuntime, folder: &str) -> Result<(), FileFault> {
+    match make_folder(rt, folder) {
+        Ok(true) => {}
+        Ok(false) => return Ok(()),
+        Err(error) => return Err(device(rt.alloc(), folder, error)),
+    }
+    let above = folder_of(folder.trim_end_matches('/'));
+    match sync_folder(rt, above) {
         Ok(()) => Ok(()),
-        Err(error) => Err(device(rt.alloc(), folder, error)),
+        Err(error) => Err(device(rt.alloc(), above, error)),
     }
 }
 
