@@ -2,10 +2,19 @@
 use std::io;
 
 /// A folder that couldn't be listed: what is in it counts as lost.
-#[derive(Drop)]
 pub struct Unlisted {
     /// Its name in the store, and its path.
     pub name: String,
     pub path: String,
     pub error: io::Error,
+}
+
+impl Drop for Unlisted {
+    fn drop(self) {
+        let Unlisted {
+            name: _,
+            path: _,
+            error: _,
+        } = self;
+    }
 }

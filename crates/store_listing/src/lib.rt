@@ -12,6 +12,7 @@ mod leaving;
 mod listed_descriptions;
 mod listed_folders;
 mod listing;
+mod store_stripes;
 mod stripe_names;
 mod watching;
 
@@ -19,5 +20,6 @@ pub use disks::Unlisted;
 pub use expecting::expect_listed;
 pub use leaving::left_in;
 pub use listing::{Listing, list};
-pub use stripe_names::{Alone, Others, StoreStripes, StripeNames};
+pub use store_stripes::{Alone, StoreStripes};
+pub use stripe_names::{Others, StripeNames};
 pub use watching::{Foreign, Wanted, Watched};

@@ -15,7 +15,6 @@ use stores::Found;
 const LOST_AND_FOUND: &str = "lost+found";
 
 /// What is in a folder.
-#[derive(Drop)]
 pub struct Listing {
     /// What the names of its files say of stripes.
     pub names: StripeNames,
@@ -38,6 +37,24 @@ pub struct Listing {
     pub(crate) is_ambiguous: bool,
     /// Whether fragments of other parts are looked at too.
     looks_at_all: bool,
+}
+
+impl Drop for Listing {
+    fn drop(self) {
+        let Listing {
+            names: _,
+            unlisted: _,
+            leftovers: _,
+            unreadable_names: _,
+            link: _,
+            links: _,
+            linked: _,
+            foreign: _,
+            watched: _,
+            is_ambiguous: _,
+            looks_at_all: _,
+        } = self;
+    }
 }
 
 /// Lists the folder at a path. Names that don't fit its pattern are left alone. A folder in it that can't be listed costs what is in it.

@@ -1,23 +1,12 @@
 //! Which stripes a store has, by the names of its files and by what else says that they should be there.
+use crate::store_stripes::{Alone, StoreStripes, are_stripe};
 use lrc_code::{Code, Place};
 use std::alloc::{AllocError, Global};
 use std::collections::{BTreeMap, BTreeSet};
 use store_names::Part;
-use store_records::MOST_BYTES;
 use stores::{Found, StripeFiles};
 
-/// A stripe that nothing else names has so many fragments at least: a file alone may have such a name by chance.
-const LEAST_FRAGMENTS: usize = 2;
-
-/// A file that is named as a fragment, and is of no stripe: it has no other fragment beside it, or the code hasn't its place.
-#[derive(Debug, Drop)]
-pub struct Alone {
-    pub stripe: String,
-    pub place: Place,
-}
-
 /// What names say of a store's stripes, while they are read.
-#[derive(Drop)]
 pub struct StripeNames {
     part: Option<Part>,
     files: BTreeMap<String, StripeFiles>,
@@ -33,6 +22,22 @@ pub struct StripeNames {
     /// How many descriptions say each code, and how many fragments that sums name are at places of each.
     by_descriptions: Votes,
     by_sums: Votes,
+}
+
+impl Drop for StripeNames {
+    fn drop(self) {
+        let StripeNames {
+            part: _,
+            files: _,
+            blocked: _,
+            expected: _,
+            described: _,
+            doubtful: _,
+            named: _,
+            by_descriptions: _,
+            by_sums: _,
+        } = self;
+    }
 }
 
 /// How many things say each code.
@@ -58,17 +63,6 @@ impl Votes {
             Code::Wide => self.wide,
         }
     }
-}
-
-/// The stripes of a store.
-#[derive(Drop)]
-pub struct StoreStripes {
-    /// What is under the names of each stripe's fragments.
-    pub files: BTreeMap<String, StripeFiles>,
-    /// Those of which there is a description, or should be one.
-    pub described: BTreeSet<String>,
-    /// What is of no stripe.
-    pub alone: Vec<Alone>,
 }
 
 impl StripeNames {
@@ -222,7 +216,7 @@ impl StripeNames {
     fn by_places(&self, doubtful_is: Code) -> Votes {
         let mut votes = Votes::default();
         for files in self.files.values() {
-            if count_of(files, Code::Wide) >= LEAST_FRAGMENTS {
+            if are_stripe(files, Code::Wide) {
                 votes.add(said_by(files, doubtful_is));
             }
         }
@@ -256,12 +250,15 @@ impl StripeNames {
         ending: Option<&str>,
     ) -> Result<StoreStripes, AllocError> {
         let StripeNames {
+            part: _,
             files,
             blocked,
             expected,
             described,
             doubtful,
-            ..
+            named: _,
+            by_descriptions: _,
+            by_sums: _,
         } = self;
         let mut stripes = StoreStripes {
             files: BTreeMap::new(alloc),
@@ -277,111 +274,11 @@ impl StripeNames {
 }
 
 /// How many of some stripes are of another code.
-#[derive(Clone, Copy, Debug, PartialEq, Eq)]
+#[derive(Clone, Copy, PartialEq, Eq)]
 pub enum Others {
     None,
     Some,
     All,
-}
-
-impl StoreStripes {
-    /// Whether files are the descriptions of a stripe, and no stripe of their own.
-    fn describes(&self, name: &str, files: &StripeFiles, ending: Option<&str>) -> bool {
-        let Some(ending) = ending else {
-            return false;
-        };
-        let Some(stripe) = name.strip_suffix(ending) else {
-            return false;
-        };
-        let is_short = |found: &Found| {
-            match *found {
-                Found::File { length } => length <= MOST_BYTES,
-                _ => true,
-            }
-        };
-        self.described.contains(stripe) && files.found.iter().all(is_short)
-    }
-
-    /// Takes the files of each name for those of a stripe, for its descriptions, or each for one that is alone.
-    fn settle_all(
-        &mut self,
-        alloc: Global,
-        code: Code,
-        ending: Option<&str>,
-        files: BTreeMap<String, StripeFiles>,
-        expected: &BTreeSet<String>,
-    ) -> Result<(), AllocError> {
-        for (name, found) in files {
-            if !self.describes(name.as_str(), &found, ending) {
-                let is_expected = expected.contains(name.as_str());
-                self.settle(alloc, code, name, found, is_expected)?;
-            }
-        }
-        Ok(())
-    }
-
-    /// Adds the stripes that are expected and of which nothing is there.
-    fn add_expected(&mut self, expected: BTreeSet<String>) -> Result<(), AllocError> {
-        for name in expected {
-            if !self.files.contains_key(name.as_str()) {
-                self.files.insert(name, StripeFiles::new())?;
-            }
-        }
-        Ok(())
-    }
-
-    /// Takes those stripes for described of which it was doubtful whether a file is of theirs.
-    fn add_doubtful(&mut self, doubtful: BTreeSet<String>) -> Result<(), AllocError> {
-        for name in doubtful {
-            if self.files.contains_key(name.as_str()) {
-                self.described.insert(name)?;
-            }
-        }
-        Ok(())
-    }
-
-    /// Notes the places at which something is that is no fragment.
-    fn block(&mut self, blocked: Vec<Alone>) {
-        for Alone { stripe, place } in blocked {
-            if let Some(files) = self.files.get_mut(stripe.as_str()) {
-                files.found[place.index()] = Found::Other;
-            }
-        }
-    }
-
-    /// Takes the files of a name for those of a stripe, or each for one that is alone.
-    fn settle(
-        &mut self,
-        alloc: Global,
-        code: Code,
-        name: String,
-        found: StripeFiles,
-        is_expected: bool,
-    ) -> Result<(), AllocError> {
-        let is_stripe = is_expected || count_of(&found, code) >= LEAST_FRAGMENTS;
-        for place in &Place::ALL {
-            if found.at(*place) != Found::Absent && !(is_stripe && code.has(*place)) {
-                let stripe = String::from_str(alloc, name.as_str())?;
-                let place = *place;
-                self.alone.push(Alone { stripe, place })?;
-            }
-        }
-        if is_stripe {
-            self.files.insert(name, found)?;
-        }
-        Ok(())
-    }
-}
-
-/// At how many places of a code there is something.
-fn count_of(files: &StripeFiles, code: Code) -> usize {
-    let mut count = 0usize;
-    for place in code.places() {
-        if files.at(*place) != Found::Absent {
-            count = count.saturating_add(1);
-        }
-    }
-    count
 }
 
 /// The code of a stripe by its places: 12-2-2 if it has one that the (6,2,2) code hasn't, 6-2-2 if it has all of that code, and else this.

@@ -97,7 +97,7 @@ fn keep_changes(
     findings: &mut Vec<Finding>,
 ) -> Result<(), AllocError> {
     for finding in noted {
-        let is_change = matches!(finding.reason, Reason::Changed);
+        let is_change = matches!(&finding.reason, Reason::Changed);
         if is_change && matches!(repair.reads, Reads::Checked) {
             findings.push(finding)?;
         }

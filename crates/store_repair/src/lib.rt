@@ -8,6 +8,7 @@ mod combining;
 mod consistency;
 mod coverage;
 mod damage;
+mod device_faults;
 mod encoding;
 mod fewest;
 pub mod file_laws;

@@ -15,10 +15,11 @@ ghost use Rattle.store_repair.specs.Opened.{AreMade, AreOpened};
 ghost use Rattle.store_repair.specs.Repaired.{IfMade, IfNotMade, IsAccountedFor, IsNotMade};
 
 use crate::damage::{Damage, Suspects, find_damaged};
+use crate::device_faults::{note_unread, note_unwritten};
 use crate::losses::{are_checked, lost_places};
 use crate::mending::{MendFault, Survivors, mend};
 use crate::opening::{Opened, leave_out};
-use crate::outcomes::{Finding, Reason, note, note_unread, note_unwritten};
+use crate::outcomes::{Finding, Reason, note};
 use crate::settings::{Reads, Repair};
 use lrc_code::{Place, PlaceSet};
 use std::alloc::{AllocError, Global};

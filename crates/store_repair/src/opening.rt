@@ -13,7 +13,8 @@ ghost use Rattle.store_repair.specs.Scrubbed.{said_damaged};
 ghost use Rattle.stores.specs.Stripes.{has_file};
 
 use crate::damage::without;
-use crate::outcomes::{Finding, note_unread};
+use crate::device_faults::note_unread;
+use crate::outcomes::Finding;
 use lrc_code::{Code, Place, PlaceSet};
 use std::alloc::{AllocError, Global};
 use stores::{Refused, Store, Stripe, nth_place};

@@ -14,11 +14,10 @@ use crate::length_groups::Lengths;
 use lrc_code::{Code, Place, PlaceSet};
 use std::alloc::{AllocError, Global};
 use std::fmt::{self, Display, Formatter, Write};
-use std::io::{self, ErrorKind};
+use std::io;
 use stores::{Found, NameFault, Stripe};
 
 /// Why a fragment, or a stripe, isn't as it should be.
-#[derive(Drop)]
 pub enum Reason {
     Absent,
     OtherLength,
@@ -54,6 +53,34 @@ pub enum Reason {
     Unsettled(NameFault),
     CameMeanwhile,
     KeptThere,
+}
+
+impl Drop for Reason {
+    fn drop(self) {
+        match self {
+            Reason::Absent => {}
+            Reason::OtherLength => {}
+            Reason::Dangling => {}
+            Reason::NoFile => {}
+            Reason::Unknown(_) => {}
+            Reason::NoSurvivor => {}
+            Reason::LengthsDiffer(_) => {}
+            Reason::Several => {}
+            Reason::Damaged => {}
+            Reason::TakenForDamaged => {}
+            Reason::Suspected(_) => {}
+            Reason::Contradiction => {}
+            Reason::Differs => {}
+            Reason::RebuiltDiffers => {}
+            Reason::Changed => {}
+            Reason::Unread(_) => {}
+            Reason::Unwritten(_) => {}
+            Reason::NoCheck => {}
+            Reason::Unsettled(_) => {}
+            Reason::CameMeanwhile => {}
+            Reason::KeptThere => {}
+        }
+    }
 }
 
 impl Display for Reason {
@@ -330,51 +357,4 @@ pub(crate) fn note_unknown(
         }
     }
     Ok(())
-}
-
-/// Notes why the fragment at a place, or something of the stripe, can't be read.
-pub(crate) fn note_unread(
-    findings: &mut Vec<Finding>,
-    place: Option<Place>,
-    error: io::Error,
-) -> Result<(), AllocError>
-    ensures said { OnOk result (said_damaged findings.new.items ≡ said_damaged findings.old.items) }
-    ensures named { OnOk result (named findings.new.items ≡ named findings.old.items ++ named_by place) }
-    ensures some { OnOk result (findings.new.items ≢ []) }
-{
-    note(findings, place, read_fault(error)?)
-}
-
-/// Notes why the fragment at a place, or something of the stripe, can't be written.
-pub(crate) fn note_unwritten(
-    findings: &mut Vec<Finding>,
-    place: Option<Place>,
-    error: io::Error,
-) -> Result<(), AllocError>
-    ensures named { OnOk result (named findings.new.items ≡ named findings.old.items ++ named_by place) }
-    ensures some { OnOk result (findings.new.items ≢ []) }
-{
-    note(findings, place, write_fault(error)?)
-}
-
-/// Why a fragment can't be read. An error of the kind `InvalidData` says that it differs from the store's checksums, and one of the kind
-/// `ResourceBusy` that it was changed since it was opened.
-fn read_fault(error: io::Error) -> Result<Reason, AllocError>
-    ensures { IfOk result (λ reason. (place : Option Place) → damaged_by reason place ≡ []) }
-{
-    match error.kind() {
-        ErrorKind::OutOfMemory => Err(AllocError),
-        ErrorKind::InvalidData => Ok(Reason::Differs),
-        ErrorKind::ResourceBusy => Ok(Reason::Changed),
-        _ => Ok(Reason::Unread(error)),
-    }
-}
-
-/// Why a fragment can't be written. An error of the kind `InvalidData` says that it differs from the store's checksums.
-fn write_fault(error: io::Error) -> Result<Reason, AllocError> {
-    match error.kind() {
-        ErrorKind::OutOfMemory => Err(AllocError),
-        ErrorKind::InvalidData => Ok(Reason::RebuiltDiffers),
-        _ => Ok(Reason::Unwritten(error)),
-    }
 }

@@ -13,10 +13,9 @@ ghost use Rattle.stores.specs.Store.{AreUntouched, HasName, SameElsewhere};
 ghost use Rattle.stores.specs.declared.store.Placed.TheVariants as placed;
 
 use crate::coverage::is_covered;
+use crate::device_faults::note_unwritten;
 use crate::making::{Made, discard};
-use crate::outcomes::{
-    Finding, Reason, is_named, is_said_damaged, is_said_to_differ, note, note_unwritten,
-};
+use crate::outcomes::{Finding, Reason, is_named, is_said_damaged, is_said_to_differ, note};
 use crate::settings::Repair;
 use lrc_code::{Place, PlaceSet};
 use std::alloc::{AllocError, Global};

@@ -16,11 +16,12 @@ ghost use Rattle.stores.specs.Shown.{AreShown};
 ghost use Rattle.stores.specs.Stripes.{has_file};
 
 use crate::damage::{Damage, find_damaged};
+use crate::device_faults::note_unread;
 use crate::lengths::length_or_note;
 use crate::losses::have_checks;
 use crate::mending::{MendFault, Survivors};
 use crate::opening::open_survivors;
-use crate::outcomes::{Finding, Reason, StripeOutcome, note, note_unread};
+use crate::outcomes::{Finding, Reason, StripeOutcome, note};
 use lrc_code::{Code, Place};
 use std::alloc::{AllocError, Global};
 use stores::{Fragment, Store, Stripe};

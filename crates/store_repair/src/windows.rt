@@ -21,10 +21,15 @@ pub(crate) struct Window {
 }
 
 /// The room for a window of each fragment, and for one of a combination.
-#[derive(Drop)]
 pub(crate) struct Buffers {
     pub(crate) rooms: Vec<Vec<u8>>,
     pub(crate) sums: Vec<u8>,
+}
+
+impl Drop for Buffers {
+    fn drop(self) {
+        let Buffers { rooms: _, sums: _ } = self;
+    }
 }
 
 /// What the system refused of the file at an index.

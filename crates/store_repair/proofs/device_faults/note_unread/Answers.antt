@@ -1,7 +1,7 @@
 use Rattle.std.proofs.lemmas.Result.{IfOk-weaker}
 use Rattle.store_repair.specs.Scrubbed.{damaged_by, said_damaged}
 use Rattle.store_repair.proofs.ScrubLemmas.{same_said}
-use Rattle.store_repair.proofs.outcomes.note_unread.Goals as goal
+use Rattle.store_repair.proofs.device_faults.note_unread.Goals as goal
 
 pub returns-clause-said : goal.returns-clause-said
 returns-clause-said c = IfOk-weaker c.note.result _ _

@@ -1,0 +1,141 @@
+//! The stripes of a store: which names are those of one, and what is of none.
+use lrc_code::{Code, Place};
+use std::alloc::{AllocError, Global};
+use std::collections::{BTreeMap, BTreeSet};
+use store_records::MOST_BYTES;
+use stores::{Found, StripeFiles};
+
+/// A stripe that nothing else names has so many fragments at least: a file alone may have such a name by chance.
+const LEAST_FRAGMENTS: usize = 2;
+
+/// A file that is named as a fragment, and is of no stripe: it has no other fragment beside it, or the code hasn't its place.
+#[derive(Drop)]
+pub struct Alone {
+    pub stripe: String,
+    pub place: Place,
+}
+
+/// The stripes of a store.
+pub struct StoreStripes {
+    /// What is under the names of each stripe's fragments.
+    pub files: BTreeMap<String, StripeFiles>,
+    /// Those of which there is a description, or should be one.
+    pub described: BTreeSet<String>,
+    /// What is of no stripe.
+    pub alone: Vec<Alone>,
+}
+
+impl Drop for StoreStripes {
+    fn drop(self) {
+        let StoreStripes {
+            files: _,
+            described: _,
+            alone: _,
+        } = self;
+    }
+}
+
+impl StoreStripes {
+    /// Whether files are the descriptions of a stripe, and no stripe of their own.
+    fn describes(&self, name: &str, files: &StripeFiles, ending: Option<&str>) -> bool {
+        let Some(ending) = ending else {
+            return false;
+        };
+        let Some(stripe) = name.strip_suffix(ending) else {
+            return false;
+        };
+        let is_short = |found: &Found| {
+            match *found {
+                Found::File { length } => length <= MOST_BYTES,
+                _ => true,
+            }
+        };
+        self.described.contains(stripe) && files.found.iter().all(is_short)
+    }
+
+    /// Takes the files of each name for those of a stripe, for its descriptions, or each for one that is alone.
+    pub(crate) fn settle_all(
+        &mut self,
+        alloc: Global,
+        code: Code,
+        ending: Option<&str>,
+        files: BTreeMap<String, StripeFiles>,
+        expected: &BTreeSet<String>,
+    ) -> Result<(), AllocError> {
+        for (name, found) in files {
+            if !self.describes(name.as_str(), &found, ending) {
+                let is_expected = expected.contains(name.as_str());
+                self.settle(alloc, code, name, found, is_expected)?;
+            }
+        }
+        Ok(())
+    }
+
+    /// Adds the stripes that are expected and of which nothing is there.
+    pub(crate) fn add_expected(&mut self, expected: BTreeSet<String>) -> Result<(), AllocError> {
+        for name in expected {
+            if !self.files.contains_key(name.as_str()) {
+                self.files.insert(name, StripeFiles::new())?;
+            }
+        }
+        Ok(())
+    }
+
+    /// Takes those stripes for described of which it was doubtful whether a file is of theirs.
+    pub(crate) fn add_doubtful(&mut self, doubtful: BTreeSet<String>) -> Result<(), AllocError> {
+        for name in doubtful {
+            if self.files.contains_key(name.as_str()) {
+                self.described.insert(name)?;
+            }
+        }
+        Ok(())
+    }
+
+    /// Notes the places at which something is that is no fragment.
+    pub(crate) fn block(&mut self, blocked: Vec<Alone>) {
+        for Alone { stripe, place } in blocked {
+            if let Some(files) = self.files.get_mut(stripe.as_str()) {
+                files.found[place.index()] = Found::Other;
+            }
+        }
+    }
+
+    /// Takes the files of a name for those of a stripe, or each for one that is alone.
+    fn settle(
+        &mut self,
+        alloc: Global,
+        code: Code,
+        name: String,
+        found: StripeFiles,
+        is_expected: bool,
+    ) -> Result<(), AllocError> {
+        let is_stripe = is_expected || are_stripe(&found, code);
+        for place in &Place::ALL {
+            if found.at(*place) != Found::Absent && !(is_stripe && code.has(*place)) {
+                let stripe = String::from_str(alloc, name.as_str())?;
+                let place = *place;
+                self.alone.push(Alone { stripe, place })?;
+            }
+        }
+        if is_stripe {
+            self.files.insert(name, found)?;
+        }
+        Ok(())
+    }
+}
+
+/// Whether files make a stripe of a code, though nothing else names it.
+pub(crate) fn are_stripe(files: &StripeFiles, code: Code) -> bool {
+    count_of(files, code) >= LEAST_FRAGMENTS
+}
+
+/// At how many places of a code there is something.
+fn count_of(files: &StripeFiles, code: Code) -> usize {
+    let mut count = 0usize;
+    for place in code.places() {
+        if files.at(*place) != Found::Absent {
+            count = count.saturating_add(1);
+        }
+    }
+    count
+}
