@@ -15,10 +15,18 @@ use std::thread::Threads;
 
 /// Two folders of the system: that of the lists and fragments, which is read ahead in threads, and that of the reports and rebuilt
 /// fragments.
-#[derive(Drop)]
 pub struct Folders {
     pub input: ReadAheadShelf,
     pub output: FolderShelf<HostRuntime>,
+}
+
+impl Drop for Folders {
+    fn drop(self) {
+        let Folders {
+            input: _,
+            output: _,
+        } = self;
+    }
 }
 
 impl Folders {

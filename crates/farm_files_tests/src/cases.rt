@@ -63,11 +63,20 @@ pub(crate) const PLAIN: Case = Case {
 };
 
 /// The shelves of a run, and what it gave.
-#[derive(Drop)]
 struct Run {
     served: Result<Served, ServeFault>,
     input: MemoryShelf,
     output: MemoryShelf,
+}
+
+impl Drop for Run {
+    fn drop(self) {
+        let Run {
+            served: _,
+            input: _,
+            output: _,
+        } = self;
+    }
 }
 
 fn run_of<R: Threads + Wait + Sync>(

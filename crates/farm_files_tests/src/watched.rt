@@ -48,7 +48,6 @@ impl Named {
 
 /// A shelf that keeps which files are named ahead of their reads, and which beside the latest work. It counts its writes and keeps none
 /// of them, and its device never fails. It takes memory for what is read alone.
-#[derive(Drop)]
 pub(crate) struct WatchedShelf {
     shelf: MemoryShelf,
     pub(crate) ahead: Named,
@@ -57,6 +56,18 @@ pub(crate) struct WatchedShelf {
     pub(crate) rooms: usize,
     /// How many files were written.
     pub(crate) writes: u64,
+}
+
+impl Drop for WatchedShelf {
+    fn drop(self) {
+        let WatchedShelf {
+            shelf: _,
+            ahead: _,
+            beside: _,
+            rooms: _,
+            writes: _,
+        } = self;
+    }
 }
 
 impl WatchedShelf {

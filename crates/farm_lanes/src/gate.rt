@@ -27,9 +27,14 @@ use std::marker::{Brand, Model};
 use thiserror::Error;
 
 /// A gate. Contracts see its name and its size.
-#[derive(Drop)]
 pub struct Gate<A: Allocator = Global> {
     table: Table<u8, SeatRecord, GateSize, GateRule, A>,
+}
+
+impl<A: Allocator> Drop for Gate<A> {
+    fn drop(self) {
+        let Gate { table: _ } = self;
+    }
 }
 
 impl<A: Allocator> Model for Gate<A> {

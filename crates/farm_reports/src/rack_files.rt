@@ -19,10 +19,15 @@ use std::borrow::CowSlice;
 use std::thread::Threads;
 
 /// A file that is to be written: a rebuilt fragment, borrowed from the answers, or a report of its own.
-#[derive(Drop)]
 pub struct NamedFile<'a> {
     pub name: String,
     pub bytes: CowSlice<'a, u8>,
+}
+
+impl Drop for NamedFile<'_> {
+    fn drop(self) {
+        let NamedFile { name: _, bytes: _ } = self;
+    }
 }
 
 /// Adds the fragment of a row's request, where it was rebuilt.

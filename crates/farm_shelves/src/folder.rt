@@ -14,11 +14,20 @@ use std::rt::Files;
 /// It reads and writes regular files, also by links. A read or a write of anything else (a folder, a FIFO, a socket or a device) is a
 /// failure of the device: such a file is not opened, since opening a FIFO waits for the other side. What a name is, is asked before it is
 /// opened, so a program that puts a FIFO there between the two can still make a call wait.
-#[derive(Drop)]
 pub struct FolderShelf<R: Drop> {
     rt: R,
     path: String,
     failed: u64,
+}
+
+impl<R: Drop> Drop for FolderShelf<R> {
+    fn drop(self) {
+        let FolderShelf {
+            rt: _,
+            path: _,
+            failed: _,
+        } = self;
+    }
 }
 
 impl<R: Files + Clone + Drop> FolderShelf<R> {

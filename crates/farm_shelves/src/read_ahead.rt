@@ -19,7 +19,6 @@ const HELD: usize = 25_165_824;
 ///
 /// A file that changes between being read ahead and being read gives the bytes that it had when it was read ahead. A read ahead that
 /// failed is made again in its turn. A read of another file than the next one that was named, or a write, drops what was read ahead.
-#[derive(Drop)]
 pub struct ReadAheadShelf {
     folder: FolderShelf<HostRuntime>,
     /// The files that were read ahead, the next one last.
@@ -28,6 +27,17 @@ pub struct ReadAheadShelf {
     rooms: Vec<Vec<u8>>,
     /// Given back before the first files are read ahead; nothing is ever in it.
     held: Vec<u8>,
+}
+
+impl Drop for ReadAheadShelf {
+    fn drop(self) {
+        let ReadAheadShelf {
+            folder: _,
+            ahead: _,
+            rooms: _,
+            held: _,
+        } = self;
+    }
 }
 
 impl ReadAheadShelf {

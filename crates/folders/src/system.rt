@@ -33,12 +33,21 @@ pub struct SystemNew {
 }
 
 /// A file of the system that was made and is on the disk.
-#[derive(Drop)]
 pub struct SystemWhole {
     /// Open until then, so that its lock is held.
     _file: File,
     path: String,
     made: Record,
+}
+
+impl Drop for SystemWhole {
+    fn drop(self) {
+        let SystemWhole {
+            _file: _,
+            path: _,
+            made: _,
+        } = self;
+    }
 }
 
 impl<'a> SystemFolder<'a> {

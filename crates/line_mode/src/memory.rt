@@ -10,10 +10,15 @@ use std::mem::replace;
 const MOST_SURVIVORS: usize = 15;
 
 /// The memory of a list of survivors, and that of the bytes of survivors, of a vector each.
-#[derive(Drop)]
 pub(crate) struct KeptMemory {
     list: Vec<Fragment>,
     rooms: Vec<Vec<u8>>,
+}
+
+impl Drop for KeptMemory {
+    fn drop(self) {
+        let KeptMemory { list: _, rooms: _ } = self;
+    }
 }
 
 impl KeptMemory {

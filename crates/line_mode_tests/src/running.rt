@@ -68,13 +68,24 @@ impl Write for PieceWriter<'_> {
 }
 
 /// What a run of line mode left.
-#[derive(Drop)]
 pub(crate) struct Replies {
     pub(crate) text: Vec<u8>,
     pub(crate) flushed: usize,
     pub(crate) answer: Result<LineCount, LineFault>,
     pub(crate) reads: u64,
     pub(crate) writes: u64,
+}
+
+impl Drop for Replies {
+    fn drop(self) {
+        let Replies {
+            text: _,
+            flushed: _,
+            answer: _,
+            reads: _,
+            writes: _,
+        } = self;
+    }
 }
 
 /// Line mode over an input, in one thread or, as the program does for a long input, in several, by devices that move so many bytes at a

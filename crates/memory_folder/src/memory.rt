@@ -6,7 +6,6 @@ use std::alloc::{AllocError, Global};
 use std::io::{self, ErrorKind};
 
 /// Files in memory. What is at a path after a crash is what was put on the disk, or any of what was there since.
-#[derive(Drop)]
 pub struct MemoryFolder {
     pub(crate) alloc: Global,
     pub(crate) past: Record,
@@ -15,6 +14,19 @@ pub struct MemoryFolder {
     /// How many calls were made that change something.
     count: u64,
     fault: Option<Fault>,
+}
+
+impl Drop for MemoryFolder {
+    fn drop(self) {
+        let MemoryFolder {
+            alloc: _,
+            past: _,
+            nodes: _,
+            names: _,
+            count: _,
+            fault: _,
+        } = self;
+    }
 }
 
 /// Which calls fail: those that change something are counted from 0 on.
@@ -36,12 +48,21 @@ struct Node {
 }
 
 /// What is at a path, as the number of a file.
-#[derive(Drop)]
 struct Name {
     path: String,
     seen: Option<usize>,
     /// What was there since the names of its folder were written to the disk.
     before: Vec<Option<usize>>,
+}
+
+impl Drop for Name {
+    fn drop(self) {
+        let Name {
+            path: _,
+            seen: _,
+            before: _,
+        } = self;
+    }
 }
 
 /// What a crash may leave of a file that isn't on the disk: nothing, a half, all, or other bytes.

@@ -28,7 +28,7 @@ const NO_COMMAND: &str =
     "error: rebuild-store takes a command\n\nFor more information, try '--help'.\n";
 
 /// What the arguments ask for.
-#[derive(Debug, Drop)]
+#[derive(Drop)]
 pub enum Command<'a> {
     Repair(RepairOptions<'a>),
     Lost(LostOptions<'a>),

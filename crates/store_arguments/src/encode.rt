@@ -53,7 +53,7 @@ static ARGUMENTS: &[Argument] = &[STORE, FILES, CODE_OF_STRIPES, NAMES, LAYOUT];
 static PERMISSIONS: &[Argument] = &[FOLLOW, TRUST, UNMOUNTED, AS, FOLDERS, REPLACE, QUIET];
 
 /// What `encode` is given.
-#[derive(Debug, Drop)]
+#[derive(Drop)]
 pub struct EncodeOptions<'a> {
     /// The path of the store's folder.
     pub folder: &'a str,

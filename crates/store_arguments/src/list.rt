@@ -16,7 +16,7 @@ const JSON: Argument = Argument {
 static ARGUMENTS: &[Argument] = &[JSON];
 
 /// What `list` is given.
-#[derive(Clone, Copy, Debug)]
+#[derive(Clone, Copy)]
 pub struct ListOptions<'a> {
     pub store: StoreOptions<'a>,
     /// Whether lines are JSON objects.

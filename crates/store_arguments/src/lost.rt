@@ -16,7 +16,7 @@ const JSON: Argument = Argument {
 static ARGUMENTS: &[Argument] = &[JSON];
 
 /// What `lost` is given.
-#[derive(Clone, Copy, Debug)]
+#[derive(Clone, Copy)]
 pub struct LostOptions<'a> {
     pub store: StoreOptions<'a>,
     /// Whether requests are JSON, and not a list.

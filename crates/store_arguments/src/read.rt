@@ -28,7 +28,7 @@ const OUTPUT: Argument = Argument {
 static ARGUMENTS: &[Argument] = &[STORE, NAME, NAMES, LAYOUT, FOLLOW, OUTPUT, QUIET];
 
 /// What `read` is given.
-#[derive(Clone, Copy, Debug)]
+#[derive(Clone, Copy)]
 pub struct ReadOptions<'a> {
     /// The path of the store's folder.
     pub folder: &'a str,

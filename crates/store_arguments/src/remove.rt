@@ -23,7 +23,7 @@ const FILES: Argument = Argument {
 static ARGUMENTS: &[Argument] = &[STORE, FILES, CODE, NAMES, LAYOUT, FOLLOW, TRUST, QUIET];
 
 /// What `remove` is given.
-#[derive(Debug, Drop)]
+#[derive(Drop)]
 pub struct RemoveOptions<'a> {
     /// The path of the store's folder.
     pub folder: &'a str,

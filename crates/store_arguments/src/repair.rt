@@ -51,7 +51,7 @@ static ARGUMENTS: &[Argument] = &[
 ];
 
 /// What `repair` is given.
-#[derive(Clone, Copy, Debug)]
+#[derive(Clone, Copy)]
 pub struct RepairOptions<'a> {
     pub store: StoreOptions<'a>,
     pub test: TestOptions<'a>,

@@ -11,7 +11,7 @@ const ABOUT: &str = "Tests whether the fragments of each stripe belong together"
 static ARGUMENTS: &[Argument] = &[WORKERS];
 
 /// What `scrub` is given.
-#[derive(Clone, Copy, Debug)]
+#[derive(Clone, Copy)]
 pub struct ScrubOptions<'a> {
     pub store: StoreOptions<'a>,
     pub test: TestOptions<'a>,

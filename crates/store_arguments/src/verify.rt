@@ -21,7 +21,7 @@ const FILES: Argument = Argument {
 static ARGUMENTS: &[Argument] = &[STORE, FILES, NAMES, LAYOUT, FOLLOW, QUIET];
 
 /// What `verify` is given.
-#[derive(Debug, Drop)]
+#[derive(Drop)]
 pub struct VerifyOptions<'a> {
     /// The path of the store's folder.
     pub folder: &'a str,

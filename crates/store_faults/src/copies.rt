@@ -78,10 +78,15 @@ impl CopyReason {
 }
 
 /// What isn't as it should be, of a copy of this name or of a stripe.
-#[derive(Drop)]
 pub struct CopyFinding {
     pub name: String,
     pub reason: CopyReason,
+}
+
+impl Drop for CopyFinding {
+    fn drop(self) {
+        let CopyFinding { name: _, reason: _ } = self;
+    }
 }
 
 impl CopyFinding {
@@ -95,7 +100,6 @@ impl CopyFinding {
 }
 
 /// What became of the copies of a stripe's description.
-#[derive(Drop)]
 pub struct Descriptions {
     /// The names of those that were made, or would be.
     pub made: Vec<String>,
@@ -104,6 +108,17 @@ pub struct Descriptions {
     pub replaceable: u64,
     /// What is believed of the file.
     pub described: Option<Described>,
+}
+
+impl Drop for Descriptions {
+    fn drop(self) {
+        let Descriptions {
+            made: _,
+            findings: _,
+            replaceable: _,
+            described: _,
+        } = self;
+    }
 }
 
 impl Copies {

@@ -48,7 +48,7 @@ fn add_copies(
         match description_at(rt, file, copy.as_str()) {
             Ok(Some(described)) => said.push(described)?,
             Ok(None) => {}
-            Err(FileFault::OutOfMemory) => return Err(FileFault::OutOfMemory),
+            Err(fault) if matches!(&fault, FileFault::OutOfMemory) => return Err(fault),
             Err(fault) => say_fault(rt, file, mem::replace(refused, Some(fault))),
         }
     }

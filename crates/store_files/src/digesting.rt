@@ -11,12 +11,17 @@ use store_folder::{Digest, Links, digest_of, open_fragment};
 use store_repair::NewFragment;
 
 /// A new file that is digested as it is written.
-#[derive(Drop)]
 pub struct Digested<N: NewFragment> {
     file: N,
     /// None once bytes couldn't be appended.
     digest: Option<Sha256>,
     ghost digested: { ∥ IsDigestOf digest (N.shown file) ∥₁ },
+}
+
+impl<N: NewFragment + Drop> Drop for Digested<N> {
+    fn drop(self) {
+        let Digested { file: _, digest: _ } = self;
+    }
 }
 
 impl<N: NewFragment> Digested<N> {

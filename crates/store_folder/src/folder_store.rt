@@ -29,7 +29,6 @@ use stores::{NameFault, Placed, Refused, Store};
 
 /// A store in a folder, as one thread works in it. Whenever one of its calls ends, by a crash or by itself, each path of the folder has
 /// what it had, or all the bytes of a file that was put on the disk.
-#[derive(Drop)]
 pub struct FolderStore<'a, F: Folder> {
     pub(crate) rt: &'a HostRuntime,
     pub(crate) files: F,
@@ -37,6 +36,18 @@ pub struct FolderStore<'a, F: Folder> {
     touched: Touched,
     /// An unfinished file that could not be removed, and why.
     leftover: Option<NameFault>,
+}
+
+impl<F: Folder + Drop> Drop for FolderStore<'_, F> {
+    fn drop(self) {
+        let FolderStore {
+            rt: _,
+            files: _,
+            site: _,
+            touched: _,
+            leftover: _,
+        } = self;
+    }
 }
 
 impl<'a> FolderStore<'a, SystemFolder<'a>> {
@@ -67,7 +78,14 @@ impl<'a, F: Folder> FolderStore<'a, F> {
     pub fn into_files(self) -> F
         ensures { result ≡ self.entry.files }
     {
-        self.files
+        let FolderStore {
+            rt: _,
+            files,
+            site: _,
+            touched: _,
+            leftover: _,
+        } = self;
+        files
     }
 
     /// The path of a fragment in a folder, if it has a name.
@@ -88,10 +106,7 @@ impl<'a, F: Folder> FolderStore<'a, F> {
                 Err(error) => refused = Some(error),
             }
         }
-        match refused {
-            Some(error) => Err(error),
-            None => Ok(None),
-        }
+        refused.map_or(Ok(None), Err)
     }
 
     /// A new fragment for a place of a stripe, in a file under a temporary name.

@@ -11,12 +11,21 @@ use store_names::Locking;
 const MOST_OPENINGS: usize = 100;
 
 /// The locks of a run that writes: it holds them for as long as their files are open.
-#[derive(Drop)]
 pub struct Locks {
     files: Vec<File>,
     /// The path of the lock of a part, whose file is the last.
     part: Option<String>,
     sharing: Sharing,
+}
+
+impl Drop for Locks {
+    fn drop(self) {
+        let Locks {
+            files: _,
+            part: _,
+            sharing: _,
+        } = self;
+    }
 }
 
 impl Locks {

@@ -17,7 +17,6 @@ use store_repair::Stripe;
 const WRITTEN: [&str; 3] = [REPORT_HEADER, ROW_BEGIN, COUNTER_PREFIX];
 
 /// A store that is open.
-#[derive(Drop)]
 pub struct OpenStore {
     pub folder: String,
     pub code: Code,
@@ -34,6 +33,22 @@ pub struct OpenStore {
     pub has_unlisted: bool,
     /// The folders of disks at which none is mounted, and into which nothing is to be written.
     pub unmounted: Vec<String>,
+}
+
+impl Drop for OpenStore {
+    fn drop(self) {
+        let OpenStore {
+            folder: _,
+            code: _,
+            listing: _,
+            found: _,
+            sums: _,
+            locks: _,
+            target: _,
+            has_unlisted: _,
+            unmounted: _,
+        } = self;
+    }
 }
 
 /// Opens a store; where it is to be written into, no other run that writes works in it meanwhile. Its code is the one that is given, or
@@ -73,11 +88,20 @@ struct Known {
 }
 
 /// A store that is open, but for its locks.
-#[derive(Drop)]
 struct Unlocked {
     listings: Listings,
     known: Known,
     sums: Option<Sums>,
+}
+
+impl Drop for Unlocked {
+    fn drop(self) {
+        let Unlocked {
+            listings: _,
+            known: _,
+            sums: _,
+        } = self;
+    }
 }
 
 impl Unlocked {

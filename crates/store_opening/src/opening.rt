@@ -3,7 +3,7 @@ use lrc_code::Code;
 use store_folder::{Links, Part, Pattern};
 
 /// A store that is to be opened, and for what.
-#[derive(Clone, Copy, Debug)]
+#[derive(Clone, Copy)]
 pub struct Opening<'a> {
     /// The path of its folder.
     pub folder: &'a str,
@@ -56,7 +56,7 @@ impl<'a> Opening<'a> {
 }
 
 /// What is done with folders of disks at which none is mounted.
-#[derive(Clone, Copy, Debug, PartialEq, Eq)]
+#[derive(Clone, Copy, PartialEq, Eq)]
 pub enum Unmounted {
     /// They are named.
     Named,
@@ -67,7 +67,7 @@ pub enum Unmounted {
 }
 
 /// Whether a store, or the folder that rebuilt fragments are written to, is written into.
-#[derive(Clone, Copy, Debug, PartialEq, Eq)]
+#[derive(Clone, Copy, PartialEq, Eq)]
 pub enum Access {
     Reads,
     /// It is, so that other runs are kept out. As root, a folder that others may write into is refused unless they are trusted.

@@ -14,12 +14,17 @@ const HOST: &str = "/proc/sys/kernel/hostname";
 const MOUNTS: &str = "/proc/self/mountinfo";
 
 /// A run that writes, and the mounts that it sees.
-#[derive(Drop)]
 pub(crate) struct Sharing {
     /// As the names of its files say it; empty if the system doesn't say it.
     run: String,
     /// The kernel's table; empty if there is none.
     mounts: String,
+}
+
+impl Drop for Sharing {
+    fn drop(self) {
+        let Sharing { run: _, mounts: _ } = self;
+    }
 }
 
 /// A run that may still work on something.

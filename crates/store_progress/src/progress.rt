@@ -21,7 +21,7 @@ const END: &str = "\x1b[?7h\n";
 const BACK: &str = "\x1b[A";
 
 /// A command that shows how far it is. A task has no text of its own, since no lifetime may be in what a file system opens.
-#[derive(Clone, Copy, Debug, PartialEq, Eq)]
+#[derive(Clone, Copy, PartialEq, Eq)]
 pub enum Operation {
     Repair,
     Scrub,
@@ -62,7 +62,7 @@ impl Operation {
 }
 
 /// What a line counts.
-#[derive(Clone, Copy, Debug)]
+#[derive(Clone, Copy)]
 pub struct Task {
     pub operation: Operation,
     pub units: u64,

@@ -59,17 +59,27 @@ impl CountedReads {
 }
 
 /// A file system of which is counted what is read.
-#[derive(Drop)]
 pub struct CountingFolder<F> {
     files: F,
     reads: Arc<CountedReads, Global>,
 }
 
+impl<F: Drop> Drop for CountingFolder<F> {
+    fn drop(self) {
+        let CountingFolder { files: _, reads: _ } = self;
+    }
+}
+
 /// A file that is open for reading, of which is counted what is read.
-#[derive(Drop)]
 pub struct CountedOpen<O> {
     file: O,
     reads: Arc<CountedReads, Global>,
+}
+
+impl<O: Drop> Drop for CountedOpen<O> {
+    fn drop(self) {
+        let CountedOpen { file: _, reads: _ } = self;
+    }
 }
 
 impl<F: Folder> CountingFolder<F> {

@@ -16,7 +16,7 @@ use store_folder::{
 use store_repair::NewFragment;
 
 /// What is done with copies that aren't as they should be.
-#[derive(Clone, Copy, Debug, PartialEq, Eq)]
+#[derive(Clone, Copy, PartialEq, Eq)]
 pub enum CopyWork {
     /// They are named.
     Name,

@@ -7,7 +7,7 @@ use lrc_code::Code;
 use std::alloc::{AllocError, Global};
 
 /// Whether a file can be read, as far as names and lengths show it.
-#[derive(Clone, Copy, Debug, PartialEq, Eq)]
+#[derive(Clone, Copy, PartialEq, Eq)]
 pub enum FileState {
     /// All of its fragments and descriptions are there.
     Whole,
@@ -18,7 +18,7 @@ pub enum FileState {
 }
 
 /// A file of a store.
-#[derive(Clone, Copy, Debug)]
+#[derive(Clone, Copy)]
 pub struct ListedFile<'a> {
     pub name: &'a str,
     /// How many bytes it has, if a description says that.

@@ -12,7 +12,7 @@ use store_listing::Alone;
 use store_repair::StripeOutcome;
 
 /// The form of a report's rows.
-#[derive(Clone, Copy, Debug, PartialEq, Eq)]
+#[derive(Clone, Copy, PartialEq, Eq)]
 pub enum Rows {
     /// A header, and values between commas.
     Csv,

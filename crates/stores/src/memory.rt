@@ -14,7 +14,6 @@ use std::alloc::{AllocError, Global};
 use std::io::{self, ErrorKind};
 
 /// A store in memory. Contracts see its fragments, and those that were replaced, by the names of their stripes and their places.
-#[derive(Drop)]
 pub struct MemoryStore {
     alloc: Global,
     /// Of several entries of one name the first counts.
@@ -22,12 +21,31 @@ pub struct MemoryStore {
     pub(crate) replaced: Vec<Entry>,
 }
 
+impl Drop for MemoryStore {
+    fn drop(self) {
+        let MemoryStore {
+            alloc: _,
+            fragments: _,
+            replaced: _,
+        } = self;
+    }
+}
+
 /// The bytes of a stripe's fragment at a place.
-#[derive(Drop)]
 pub(crate) struct Entry {
     stripe: String,
     place: Place,
     bytes: Vec<u8>,
+}
+
+impl Drop for Entry {
+    fn drop(self) {
+        let Entry {
+            stripe: _,
+            place: _,
+            bytes: _,
+        } = self;
+    }
 }
 
 /// A fragment of a store in memory: one that survives, or a new one that has no name yet. Contracts see its bytes.

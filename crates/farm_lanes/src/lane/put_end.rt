@@ -5,7 +5,8 @@ ghost use Rattle.crossbeam_channel.specs.Ends.{sends_on};
 ghost use Rattle.farm_lanes.specs.declared.lane.item.Item.TheVariants.{Value, End};
 ghost use Rattle.farm_lanes.specs.LaneEnds.{new_put, with_put};
 ghost use Rattle.farm_lanes.specs.LaneNames.{lane_of};
-ghost use Rattle.farm_lanes.specs.LaneRule.{end_record};
+ghost use Rattle.farm_lanes.specs.LaneRecord.{EndsLast};
+ghost use Rattle.farm_lanes.specs.LaneRule.{end_record, put_of, IsPutRecord};
 
 use crate::lane::item::Item;
 use crate::lane::steps::{LanePass, LaneSender, send};
@@ -16,12 +17,22 @@ use std::sync::Wait;
 /// A put end. Contracts see its lane, its sender's number and the list that it put.
 ///
 /// It must be spent by `end`: a lane of which a put end was let go can't be settled.
-#[derive(Drop)]
 pub struct PutEnd<T: Drop, A: Allocator = Global> {
     sends: LaneSender<T, A>,
     pass: LanePass<T>,
     sender: u32,
     count: u64,
+}
+
+impl<T: Drop, A: Allocator> Drop for PutEnd<T, A> {
+    fn drop(self) {
+        let PutEnd {
+            sends: _,
+            pass: _,
+            sender: _,
+            count: _,
+        } = self;
+    }
 }
 
 impl<T: Drop, A: Allocator> Model for PutEnd<T, A> {
@@ -45,12 +56,22 @@ impl<T: Drop, A: Allocator> Model for PutEnd<T, A> {
 /// A put end that put its end mark. Contracts see of it what they see of a put end.
 ///
 /// It must be spent by `settle`.
-#[derive(Drop)]
 pub struct EndedPut<T: Drop, A: Allocator = Global> {
     pub(crate) sends: LaneSender<T, A>,
     pub(crate) pass: LanePass<T>,
     pub(crate) sender: u32,
     pub(crate) count: u64,
+}
+
+impl<T: Drop, A: Allocator> Drop for EndedPut<T, A> {
+    fn drop(self) {
+        let EndedPut {
+            sends: _,
+            pass: _,
+            sender: _,
+            count: _,
+        } = self;
+    }
 }
 
 impl<T: Drop, A: Allocator> Model for EndedPut<T, A> {
@@ -132,6 +153,23 @@ impl<T: Drop, A: Allocator> PutEnd<T, A> {
 }
 
 impl<T: Drop, A: Allocator> EndedPut<T, A> {
+    /// Its sends, its pass, its sender's number and how many items it put.
+    pub(crate) fn into_parts(self) -> (LaneSender<T, A>, LanePass<T>, u32, u64)
+        ensures seated { IsSeatAt (sends_on result.0) result.1 }
+        ensures counted { IsPutRecord result.2 result.3 (view result.1) }
+        ensures small { result.3 ≤ 4294967296 }
+        ensures last { EndsLast (put_of (view result.1)) }
+        ensures own { self ≡ record { lane = lane_of result.1; sender = result.2; put = put_of (view result.1) } }
+    {
+        let EndedPut {
+            sends,
+            pass,
+            sender,
+            count,
+        } = self;
+        (sends, pass, sender, count)
+    }
+
     /// How many items this end put: its values and the end mark.
     pub fn count(&self) -> u64
         ensures all { result ≡ length self.now.put }

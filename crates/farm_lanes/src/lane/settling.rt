@@ -34,29 +34,15 @@ pub fn settle<T: Drop, A: Allocator>(
     let Some(first) = ended.pop() else {
         unreachable!()
     };
-    let EndedPut {
-        sends,
-        mut pass,
-        sender: _,
-        count: mut put,
-    } = first;
+    let (sends, mut pass, _, mut put) = first.into_parts();
     let mut taken = 0u64;
     while let Some(end) = ended.pop() {
-        let EndedPut {
-            sends: _,
-            pass: other,
-            sender: _,
-            count,
-        } = end;
+        let (_, other, _, count) = end.into_parts();
         take_in(&sends, &mut pass, other);
         put = put.saturating_add(count);
     }
     while let Some(end) = takers.pop() {
-        let TakeEnd {
-            takes: _,
-            pass: other,
-            count,
-        } = end;
+        let (_, other, count) = end.into_parts();
         take_in(&sends, &mut pass, other);
         taken = taken.saturating_add(count);
     }

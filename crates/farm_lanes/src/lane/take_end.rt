@@ -3,7 +3,7 @@ ghost use Rattle.std.specs.Prelude.{◌≡◌, ◌<◌, [], length};
 ghost use Rattle.crossbeam_channel.specs.Claims.{IsSeatAt, view};
 ghost use Rattle.crossbeam_channel.specs.Ends.{receives_on};
 ghost use Rattle.list_members.specs.Lists.{Each};
-ghost use Rattle.farm_lanes.specs.LaneRecord.{sender_of, number_of};
+ghost use Rattle.farm_lanes.specs.LaneRecord.{sender_of, number_of, Rises};
 ghost use Rattle.farm_lanes.specs.LaneEnds.{new_take, with_taken, counted};
 ghost use Rattle.farm_lanes.specs.LaneNames.{lane_of};
 ghost use Rattle.farm_lanes.specs.LaneRule.{end_record};
@@ -17,11 +17,20 @@ use std::sync::Wait;
 /// A take end. Contracts see its lane and the list that it took.
 ///
 /// It must be spent by `settle`: a lane of which a take end was let go can't be settled.
-#[derive(Drop)]
 pub struct TakeEnd<T: Drop, A: Allocator = Global> {
     pub(crate) takes: LaneReceiver<T, A>,
     pub(crate) pass: LanePass<T>,
     pub(crate) count: u64,
+}
+
+impl<T: Drop, A: Allocator> Drop for TakeEnd<T, A> {
+    fn drop(self) {
+        let TakeEnd {
+            takes: _,
+            pass: _,
+            count: _,
+        } = self;
+    }
 }
 
 impl<T: Drop, A: Allocator> Model for TakeEnd<T, A> {
@@ -41,6 +50,19 @@ impl<T: Drop, A: Allocator> Model for TakeEnd<T, A> {
 }
 
 impl<T: Drop, A: Allocator> TakeEnd<T, A> {
+    /// Its receives, its pass and how many items it took.
+    pub(crate) fn into_parts(self) -> (LaneReceiver<T, A>, LanePass<T>, u64)
+        ensures seated { IsSeatAt (receives_on result.0) result.1 }
+        ensures puts { (view result.1).puts ≡ [] }
+        ensures counted { result.2 ≡ counted (length (view result.1).taken) }
+        ensures parts { (view result.1).parts ≡ 1 }
+        ensures rises { Rises (view result.1).taken }
+        ensures own { self ≡ record { lane = lane_of result.1; taken = (view result.1).taken } }
+    {
+        let TakeEnd { takes, pass, count } = self;
+        (takes, pass, count)
+    }
+
     /// A take end, with the pass that was cut off for it.
     pub(crate) fn new(takes: LaneReceiver<T, A>, pass: LanePass<T>) -> TakeEnd<T, A>
         requires seated { IsSeatAt (receives_on takes) pass }

@@ -29,7 +29,7 @@ pub(crate) const LAYOUT: Argument = Argument {
 const DEFAULT_NAMES: &str = "{stripe}.{place}";
 
 /// How the fragments of a store are named.
-#[derive(Clone, Copy, Debug)]
+#[derive(Clone, Copy)]
 pub struct Naming<'a> {
     /// The pattern as it was given.
     pub text: &'a str,

@@ -23,7 +23,7 @@ const PART: Argument = Argument {
 };
 
 /// A store, and the stripes of it that a command works on.
-#[derive(Clone, Copy, Debug)]
+#[derive(Clone, Copy)]
 pub struct StoreOptions<'a> {
     /// The path of its folder.
     pub folder: &'a str,

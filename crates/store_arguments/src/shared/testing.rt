@@ -50,7 +50,7 @@ const PROGRESS: Argument = Argument {
 };
 
 /// How fragments are tested, and where the rows go that say what became of them.
-#[derive(Clone, Copy, Debug)]
+#[derive(Clone, Copy)]
 pub struct TestOptions<'a> {
     /// The path of a file of checksums.
     pub sums: Option<&'a str>,

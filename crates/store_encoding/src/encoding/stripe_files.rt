@@ -12,10 +12,18 @@ use store_folder::{SUMS_NAME, description_names};
 use store_names::is_free;
 
 /// The names in the store of a stripe's files.
-#[derive(Drop)]
 pub(crate) struct StripeFiles {
     pub(crate) fragments: Vec<String>,
     pub(crate) descriptions: Vec<String>,
+}
+
+impl Drop for StripeFiles {
+    fn drop(self) {
+        let StripeFiles {
+            fragments: _,
+            descriptions: _,
+        } = self;
+    }
 }
 
 impl StripeFiles {

@@ -7,7 +7,7 @@ use std::io::{self, ErrorKind};
 use thiserror::Error;
 
 /// Why a file isn't encoded or read.
-#[derive(Debug, Drop, Error)]
+#[derive(Debug, Error)]
 pub enum FileFault {
     #[error("out of memory")]
     OutOfMemory,
@@ -25,6 +25,18 @@ pub enum FileFault {
     Store { fault: StoreFault },
 }
 
+impl Drop for FileFault {
+    fn drop(self) {
+        match self {
+            FileFault::OutOfMemory => {}
+            FileFault::Refused { what: _ } => {}
+            FileFault::Usage { what: _ } => {}
+            FileFault::Device { path: _, error: _ } => {}
+            FileFault::Store { fault: _ } => {}
+        }
+    }
+}
+
 impl From<AllocError> for FileFault {
     fn from(_error: AllocError) -> FileFault {
         FileFault::OutOfMemory
@@ -39,10 +51,10 @@ impl<T: Drop> From<AllocFailed<T>> for FileFault {
 
 impl From<StoreFault> for FileFault {
     fn from(fault: StoreFault) -> FileFault {
-        match fault {
-            StoreFault::OutOfMemory => FileFault::OutOfMemory,
-            fault => FileFault::Store { fault },
+        if matches!(&fault, StoreFault::OutOfMemory) {
+            return FileFault::OutOfMemory;
         }
+        FileFault::Store { fault }
     }
 }
 

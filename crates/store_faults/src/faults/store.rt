@@ -7,7 +7,7 @@ use store_records::SumsFault;
 use thiserror::Error;
 
 /// Why a store is refused.
-#[derive(Debug, Drop, Error)]
+#[derive(Debug, Error)]
 pub enum StoreFault {
     #[error("out of memory")]
     OutOfMemory,
@@ -69,6 +69,37 @@ pub enum StoreFault {
         path: String,
         fault: SumsFault,
     },
+}
+
+impl Drop for StoreFault {
+    fn drop(self) {
+        match self {
+            StoreFault::OutOfMemory => {}
+            StoreFault::Device {
+                folder: _,
+                error: _,
+            } => {}
+            StoreFault::InUse { folder: _ } => {}
+            StoreFault::MayBeInUse { path: _, run: _ } => {}
+            StoreFault::NoFragments {
+                folder: _,
+                names: _,
+            } => {}
+            StoreFault::FitsNot {
+                folder: _,
+                code: _,
+                stripe: _,
+            } => {}
+            StoreFault::OtherCode {
+                folder: _,
+                other: _,
+            } => {}
+            StoreFault::Untrusted { folder: _, user: _ } => {}
+            StoreFault::Unmounted { folder: _ } => {}
+            StoreFault::ReportInStore { path: _ } => {}
+            StoreFault::BadSums { path: _, fault: _ } => {}
+        }
+    }
 }
 
 impl From<AllocError> for StoreFault {

@@ -12,11 +12,20 @@ use store_folder::{Described, Digest, Site};
 use store_repair::{MendFault, NewFragment, fragment_length, read_file};
 
 /// What is kept of a file that may end at several bytes: the digest up to the first of them, and the bytes after it.
-#[derive(Drop)]
 struct Ends {
     head: Sha256,
     left: usize,
     tail: Vec<u8>,
+}
+
+impl Drop for Ends {
+    fn drop(self) {
+        let Ends {
+            head: _,
+            left: _,
+            tail: _,
+        } = self;
+    }
 }
 
 impl NewFragment for Ends {

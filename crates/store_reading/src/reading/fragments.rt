@@ -18,7 +18,7 @@ pub(crate) struct Fragments {
 }
 
 /// What is done about fragments that are lost, or can't be opened.
-#[derive(Clone, Copy, Debug, PartialEq, Eq)]
+#[derive(Clone, Copy, PartialEq, Eq)]
 pub(crate) enum Missing {
     Said,
     Unsaid,
