@@ -59,15 +59,12 @@ fn make_inside(rt: &HostRuntime, target: &Target<'_>, name: &str) -> io::Result<
 pub fn make_folder(rt: &HostRuntime, path: &str) -> io::Result<bool> {
     match fs::create_dir(rt, path) {
         Ok(()) => Ok(true),
-        Err(error) if error.kind() == ErrorKind::AlreadyExists => Ok(is_empty(rt, path)),
+        Err(error) if error.kind() == ErrorKind::AlreadyExists => is_empty(rt, path),
         Err(error) => Err(error),
     }
 }
 
-/// Whether nothing is in a folder. Of one that can't be read that isn't known.
-fn is_empty(rt: &HostRuntime, path: &str) -> bool {
-    match fs::read_dir(rt, path) {
-        Ok(mut entries) => entries.next().is_none(),
-        Err(_) => false,
-    }
+/// Whether nothing is in a folder.
+fn is_empty(rt: &HostRuntime, path: &str) -> io::Result<bool> {
+    Ok(fs::read_dir(rt, path)?.next().is_none())
 }
