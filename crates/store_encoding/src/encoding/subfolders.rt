@@ -64,7 +64,12 @@ pub fn make_folder(rt: &HostRuntime, path: &str) -> io::Result<bool> {
     }
 }
 
-/// Whether nothing is in a folder.
+/// Whether nothing is in a folder. A name that can't be shown is something.
 fn is_empty(rt: &HostRuntime, path: &str) -> io::Result<bool> {
-    Ok(fs::read_dir(rt, path)?.next().is_none())
+    match fs::read_dir(rt, path)?.next() {
+        None => Ok(true),
+        Some(Ok(_)) => Ok(false),
+        Some(Err(error)) if error.kind() == ErrorKind::InvalidFilename => Ok(false),
+        Some(Err(error)) => Err(error),
+    }
 }
