@@ -190,15 +190,17 @@ def test_damage(folder, code, choose):
     sums.unlink()
     output, errors = run("read", folder, "f0", status=1, text=False)
     check(output == b"", "wrong bytes were written")
-    for count in (1, 2):
-        again = folder.with_name(f"{folder.name}-{count}")
-        shutil.copytree(folder, again)
+    again = folder.with_name(f"{folder.name}-again")
+    shutil.copytree(folder, again)
+    places = CODES[code][0]
+    for damaged in [("x1",), ("y1",), *itertools.combinations(places, 2), ("x0", "px"), ("y2", "p1")]:
         for name, fragment in files_of(code, "f0", data).items():
             (again / name).write_bytes(fragment)
-        for place in ("x1", "y1")[:count]:
+        for place in damaged:
             damage(again / f"f0.{place}", choose)
         output, errors = run("read", again, "f0", status=0, text=False)
-        check(output == data and "read without" in errors, errors)
+        named = damaged if set(damaged) <= set(places) else ()
+        check(output == data and "read without" in errors and all(place in errors for place in named), f"{damaged}: {errors}")
     for ending in ("file", "file.copy"):
         path = folder / f"f0.{ending}"
         path.write_bytes(path.read_bytes().replace(b" ", b"  ", 1))
@@ -278,6 +280,12 @@ def test_names(folder, code, choose):
         check(output == data and f"disk0/{source.name}: left out" in errors, errors)
         run("repair", store, "--code", code, *names, status=0)
         check((store / f"disk0/{source.name}").read_bytes() == wanted[f"disk0/{source.name}"], "a shard isn't what it was")
+    # A link to a file is encoded as that file, with its own name, and stays a link.
+    link = source.with_name(f"{folder.name}-link")
+    link.symlink_to(source.name)
+    run("encode", folder, link, "--code", code, status=0)
+    output, _ = run("read", folder, link.name, status=0, text=False)
+    check(output == data and link.is_symlink() and source.read_bytes() == data, "a link to a file isn't encoded as the file")
     run("encode", folder, source, "--names", "{stripe}", status=2)
     run("read", folder, source.name, "--names", "{place}", status=2)
 
@@ -310,7 +318,8 @@ def test_refusals(folder, code, choose):
     for wrong in ("what\n", f"{none} x\n", f"{none}  \n", f"\\{none}  a\\b\n", f"{digest(b'1')}  empty\n{none}  empty\n"):
         sums.write_text(listed + wrong)
         _, errors = run("encode", folder, other / "more", "--code", code, status=1)
-        check(f"line {(listed + wrong).count(chr(10))} " in errors, errors)
+        why = "has another digest of a file than an earlier line" if wrong.count("\n") == 2 else "isn't as sha256sum writes it"
+        check(f"line {(listed + wrong).count(chr(10))} {why}" in errors, errors)
     sums.write_text(listed)
     held = os.open(folder, os.O_RDONLY)
     fcntl.flock(held, fcntl.LOCK_EX)

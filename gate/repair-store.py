@@ -368,6 +368,7 @@ def test_damage(folder, code, choose):
     check(path.read_bytes() == wrong, "a damaged fragment was replaced unasked")
     check((folder / f"{name}.{lost}").read_bytes() == fragments[lost], "a lost fragment didn't come back beside a damaged one")
     output, errors = run("repair", folder, "--code", code, "--replace-damaged", status=0)
+    check(f"{name}.{damaged}: is damaged" in errors and f"damaged: 1: {name}.{damaged}; " in output, f"what was replaced isn't said: {output}{errors}")
     kept = folder / f"{name}.{damaged}.damaged"
     check(kept.read_bytes() == wrong, "the damaged fragment wasn't kept")
     kept.unlink()
@@ -523,9 +524,16 @@ def test_other_stores(folder, code, choose):
         for place in fragments:
             (folder / f"{name}.{place}").write_bytes(choose.randbytes(50))
     (folder / "s000.x0").unlink()
+    # The first stripe has too few fragments to say anything.
+    for place in ("x0", "y1"):
+        (folder / f"a.{place}").write_bytes(choose.randbytes(50))
     before = {path.name: path.read_bytes() for path in folder.iterdir()}
     _, errors = run("repair", folder, status=1)
     check("is this the store?" in errors and "s000" in errors, errors)
+    elsewhere = folder.with_name(folder.name + "-elsewhere")
+    elsewhere.mkdir()
+    _, errors = run("repair", folder, "--to", elsewhere, status=1)
+    check("is this the store?" in errors and not [*elsewhere.iterdir()], errors)
     _, errors = run("repair", folder, "--code", code, "--reads", "all", status=1)
     check(all(f"{name}: contradiction" in errors for name in stripes), errors)
     check({path.name: path.read_bytes() for path in folder.iterdir()} == before, "a folder that is no store was changed")
@@ -542,8 +550,9 @@ def test_refusals(folder):
     run("repair", folder / "absent", status=3)
     folder.mkdir()
     (folder / "a.txt").write_text("no fragment")
-    _, errors = run("repair", folder, status=1)
-    check("is this the store?" in errors, errors)
+    for words in ((), ("--part", "1/2"), ("--part", "2/2", "--dry-run")):
+        _, errors = run("repair", folder, *words, status=1)
+        check("is this the store?" in errors, errors)
     output, _ = run("--version", status=0)
     check(output == "rebuild-store 0.1.0\n", output)
 

@@ -215,7 +215,7 @@ def as_nobody(place):
     """A copy of the program that each user can run, and how a process becomes such a user."""
     if os.geteuid() == 0 and not is_root():
         raise Skipped("there is no other user in this namespace")
-    program = place / "program"
+    program = place / PROGRAM.name
     if not program.exists():
         shutil.copy(PROGRAM, program)
         program.chmod(0o755)

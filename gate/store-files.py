@@ -128,7 +128,21 @@ def test_list(place, choose):
         path.unlink()
     (store / "SHA256SUMS").unlink()
     out, _ = run("list", *CODED, store, status=0)
+    rows = [json.loads(line) for line in run("list", *CODED, store, "--json", status=0)[0].splitlines()]
+    hold(rows[0]["name"] == "a" and rows[0]["bytes"] is None and rows[0]["lost"] == 1, rows)
     hold(out.decode().splitlines()[0] == "whole - 6-2-2 9/10 a" or out.decode().splitlines()[0] == "degraded - 6-2-2 9/10 a", out)
+
+
+def test_cut_to_nothing(place, choose):
+    """A file all of whose fragments were cut to nothing isn't whole: the sums say so."""
+    store = place / "store"
+    run("encode", store, source(place, "a", choose.randbytes(90)), status=0)
+    for path in store.glob("a.[xyp]?"):
+        path.write_bytes(b"")
+    for command in (["scrub"], ["repair", "--reads", "all"], ["verify"], ["read", "a"]):
+        ended = ran(command[0], store, *command[1:])
+        hold(ended.returncode == 1, f"{command}: {ended.returncode} {ended.stdout!r} {ended.stderr!r}")
+    hold(run("scrub", store, status=1)[0].count(b"differs from the checksums") == 10, "not each fragment is said")
 
 
 def test_verify(place, choose):
@@ -271,6 +285,10 @@ def test_replace(place, choose):
         run("scrub", *names, store, status=0)
         run("encode", "--replace", *names, store, file, status=0)
         hold(run("read", *names[:2], store, "a", status=0)[0] == new, "not the new file")
+        for data in (b"", new):
+            run("encode", "--replace", *names, store, source(place, "a", data), status=0)
+            hold(decoded(store, "a", *pattern) == data and are_right(store), f"a file isn't replaced by one of {len(data)} bytes")
+            hold(f"whole {len(data)} 6-2-2 10/10 a\n".encode() in run("list", *names, store, status=0)[0], "fragments are lost")
     (store / "disk0/a").unlink()
     (store / "disk4/a").unlink()
     run("encode", "--replace", *names, store, source(place, "a", old), status=0)
@@ -308,16 +326,33 @@ def test_replace_killed(place, choose):
         hold(read.returncode == 0 and read.stdout in (old, new), f"{where}, without x0: {read.returncode} {read.stderr!r}")
         for path in kept:
             path.rename(path.with_name(path.name.removeprefix("kept-")))
-        if number % 2:
+        is_done = goes_on(store, number, where)
+        hold(not [it for it in there(store) if "rebuild-store" in it], f"{where}: left {sorted(there(store))}")
+        hold(not is_done or are_right(store), f"{where}: digests aren't those of the files")
+        hold(not is_done or ran("scrub", store).returncode == (1 if number % 4 == 3 else 0), f"{where}: another store")
+        shutil.rmtree(store)
+
+    def goes_on(store, number, where):
+        """The next run: the same command, the old file encoded again, with --replace or without it, or the file taken out. Gives whether it
+        was done: a plain encoding may be refused."""
+        before = store.with_name(f"old-{number}")
+        before.mkdir()
+        if number % 4 == 0:
             run("encode", "--replace", store, place / "a", status=0)
             hold(decoded(store, "a") == new, f"{where}: not the new file after the same command")
-        else:
-            (place / f"old-{number}").mkdir()
-            run("encode", "--replace", store, source(place / f"old-{number}", "a", old), status=0)
+        elif number % 4 == 1:
+            run("encode", "--replace", store, source(before, "a", old), status=0)
             hold(decoded(store, "a") == old, f"{where}: not the old file after it was encoded again")
-        hold(are_right(store) and not [it for it in there(store) if "rebuild-store" in it], f"{where}: left {sorted(there(store))}")
-        run("scrub", store, status=0)
-        shutil.rmtree(store)
+        elif number % 4 == 2:
+            ended = ran("encode", store, source(before, "a", old))
+            hold(ended.returncode in (0, 1), f"{where}: {ended.returncode} {ended.stderr!r}")
+            hold(decoded(store, "a") == (new if ended.returncode else old), f"{where}: a plain encode says {ended.returncode}")
+            hold((b"--replace replaces the file" in ended.stderr) == (ended.returncode == 1), f"{where}: {ended.stderr!r}")
+            return ended.returncode == 0
+        else:
+            run("remove", store, "a", status=0)
+            hold(not [it for it in there(store) if it != "SHA256SUMS"], f"{where}: {sorted(there(store))} after the file was taken out")
+        return True
 
     with concurrent.futures.ThreadPoolExecutor(os.cpu_count()) as pool:
         [*pool.map(one, range(1, len(kinds) + 1))]
@@ -581,6 +616,9 @@ def test_standard_input(place, choose):
     hold(decoded(store, "empty") == b"", "nothing isn't what it was")
     run("encode", store, source(place, "file", b"other"), "--as", "name", status=0)
     hold(decoded(store, "name") == b"other" and not (store / "file.x0").exists(), "a file has another name than was given")
+    before = there(store)
+    _, err = run("encode", store, "-", "--as", "in", status=1, given=b"other")
+    hold("--replace replaces the file" in err and there(store) == before, f"{err}: {sorted(there(store))}")
     _, err = run("encode", store, "-", status=2)
     hold("--as NAME" in err, err)
     _, err = run("encode", store, place / "file", place / "file", "--as", "c", status=2)

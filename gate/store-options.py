@@ -270,6 +270,10 @@ def test_reports(folder, code, choose):
     for name in names:
         (folder / f"{name}.x0").unlink()
     (folder / "a.y0").write_bytes(b"short")
+    output, _ = run("repair", folder, "--code", code, "--dry-run", "--json", status=1)
+    planned = [tuple(json.loads(line)[key] for key in ("stripe", "place", "outcome", "detail")) for line in output.splitlines()]
+    left = ("a", "y0", "left", "has another length than the other fragments of the stripe")
+    check(sorted(planned) == sorted([*((name, "x0", "would be rebuilt", "") for name in names), left]), f"{planned}")
     rows = [(name, "x0", "rebuilt", "") for name in names]
     rows.append(("a", "y0", "left", "has another length than the other fragments of the stripe"))
     report = folder.parent / "report.csv"
@@ -286,10 +290,27 @@ def test_reports(folder, code, choose):
     check(not [path for path in report.parent.iterdir() if path.name.startswith(".rebuild")], "the report left something")
 
 
+def test_rows_of_a_stripe(folder, code, choose):
+    """What is said of a stripe as a whole has a row too, whose place is empty."""
+    lay(folder, stripes_of(code, choose, ["a"]), plain)
+    (folder / "a.x0").unlink()
+    for place in ("x1", "y2"):
+        data = bytearray((folder / f"a.{place}").read_bytes())
+        data[0] ^= 1
+        (folder / f"a.{place}").write_bytes(data)
+    why, report = "contradiction, and which fragment is damaged can't be told", folder.parent / "report.csv"
+    for command in ("repair", "scrub"):
+        output, errors = run(command, folder, "--code", code, "--report", report, "--json", status=1)
+        rows = [json.loads(line) for line in output.splitlines()]
+        check(rows.count({"stripe": "a", "place": "", "outcome": "left", "detail": why}) == 1, output)
+        check(f'\na,,left,"{why}"\n' in report.read_text(), report.read_text())
+
+
 def main():
     choose = random.Random(26)
     for code in DATA:
-        for test in (test_disks, test_place_first, test_stripes, test_parts, test_another_folder, test_sums, test_requests, test_reports):
+        for test in (test_disks, test_place_first, test_stripes, test_parts, test_another_folder, test_sums, test_requests, test_reports,
+                     test_rows_of_a_stripe):
             with tempfile.TemporaryDirectory() as scratch:
                 folder = pathlib.Path(scratch) / "store"
                 folder.mkdir()

@@ -100,7 +100,7 @@ def needs_root():
 def as_user(place):
     """A copy of the program that each user can run, and how a process becomes such a user."""
     needs_root()
-    program = place / "program"
+    program = place / PROGRAM.name
     if not program.exists():
         shutil.copy(PROGRAM, program)
         program.chmod(0o755)
@@ -304,6 +304,14 @@ def test_links(place, choose):
     hold(not (outside / LEFTOVER).exists(), "what a killed run left where a link leads stays")
     hold((store / "b.p0").is_symlink() and (outside / "made").read_bytes() == files["b.p0"], "a link wasn't followed")
     hold((outside / "made").stat().st_mode & 0o7000 == 0, "a fragment has the identity of its owner")
+    # A link that leads to another one, whose text is meant from where that lies.
+    (store / "b.p1").unlink()
+    (store / "b.p1").symlink_to(outside / "next")
+    (outside / "next").symlink_to("deep/end")
+    (outside / "deep").mkdir()
+    run("repair", store, "--follow-links", status=0)
+    hold((outside / "deep/end").read_bytes() == files["b.p1"] and (outside / "next").is_symlink(), "links weren't followed to their end")
+    hold((store / "b.p1").read_bytes() == files["b.p1"] and not (store / "deep").exists(), "a fragment lies elsewhere")
 
 
 def test_linked_folders(place, choose):
@@ -397,7 +405,8 @@ def test_files_named_like_locks(place, choose):
         (store / name / "s").write_bytes(data)
     data = (store / "x0/s").read_bytes()
     others = [store / LOCK_OF_PART, store / "x0" / LOCK_OF_PART, store / "x1/.rebuild-store-part-3-of-4"]
-    kinds = {"bytes": choose.randbytes(600), "text": b"minutes of a meeting\n", "no line": b"17@host", "long": b"17@host\n" * 100}
+    kinds = {"bytes": choose.randbytes(600), "text": b"minutes of a meeting\n", "no line": b"17@host", "long": b"17@host\n" * 100,
+             "short": b"\xff\xfe\x00"}
     for kind, bytes_of_it in kinds.items():
         for other in others:
             other.write_bytes(bytes_of_it)
@@ -571,6 +580,23 @@ def test_leftovers_of_another_folder(place, choose):
     hold(there(to) == {"s.x0": lost, ".rebuild-store-0": b"older"}, f"{sorted(there(to))}: {said}")
 
 
+def test_leftovers_that_cannot_be_removed(place, choose):
+    """Each leftover that the system doesn't let a run remove is said, with the status of a device, and the others go."""
+    how = as_user(place)
+    store = place / "sticky"
+    files = lay(store, choose)
+    store.chmod(0o1777)
+    mine, others = ([store / f".rebuild-store-{number:016x}" for number in range(begin, begin + 4)] for begin in (0, 100))
+    for path in [*mine, *others]:
+        path.write_bytes(b"half")
+        os.chown(path, USER if path in mine else OTHER, -1)
+    (store / "s.x0").unlink()
+    said = run("repair", store, status=3, **how)
+    hold(not any(path.exists() for path in mine), f"leftovers that can be removed stay: {sorted(there(store))}")
+    hold(all(path.exists() and f"{path}: " in said for path in others), f"leftovers that stay aren't said: {said}")
+    hold((store / "s.x0").read_bytes() == files["s.x0"], "the fragment isn't what it was")
+
+
 def test_kills_elsewhere(place, choose):
     """A run that is killed leaves nothing that stays in the way, also where it writes to another folder or to another disk by links."""
     calls = Calls(place)
@@ -605,7 +631,7 @@ def test_root_in_others_folders(place, choose):
     source = place / "root-source"
     source.write_bytes(b"source")
     names = ["--code", "6-2-2", "--names", "{place}/{stripe}"]
-    for kind in ("owner", "mode", "group", "disk"):
+    for kind in ("owner", "mode", "sticky", "group", "disk"):
         store = place / f"others-{kind}"
         if kind == "disk":
             store.mkdir()
@@ -622,10 +648,11 @@ def test_root_in_others_folders(place, choose):
                 os.chown(store, OTHER, 0)
             elif kind == "group":
                 os.chown(store, 0, OTHER)
-            store.chmod({"owner": 0o755, "mode": 0o777, "group": 0o775}[kind])
+            store.chmod({"owner": 0o755, "mode": 0o777, "sticky": 0o1777, "group": 0o775}[kind])
         data = lost.read_bytes()
         lost.unlink()
-        for command in (["repair", store, *words], ["repair", store, *words, "--part", "1/1"], ["encode", store, source, *words]):
+        for command in (["repair", store, *words], ["repair", store, *words, "--part", "1/1"], ["encode", store, source, *words],
+                        ["encode", "--replace", store, source, *words], ["remove", store, "s", *words]):
             said = run(*command, status=2)
             hold(str(folder) in said and "--trust-writers" in said, said)
         hold(not lost.exists() and not list(store.glob(".rebuild-store-*")), "something was written where others may write")
@@ -657,6 +684,16 @@ def test_kept_fragments(place, choose):
         os.link(store / f"disk{number}/note", store / f"disk{number}/note.damaged")
     run("repair", store, *names, status=0)
     hold(sorted(path.name for path in store.glob("disk*/*")) == ["note"] * 10 + ["note.damaged"] * 4, "fragments were made of kept ones")
+    # Somebody's file under the name by which a fragment would be kept stays, also if it is as long, and so does the fragment.
+    note, other = store / "disk7/note", store / "disk7/note.damaged"
+    damaged = bytes([data[7][0] ^ 1]) + data[7][1:]
+    for bytes_of_it in (b"other", bytes(90), damaged):
+        note.write_bytes(damaged)
+        other.write_bytes(bytes_of_it)
+        said = run("repair", store, *names, "--replace-damaged", status=1)
+        hold(note.read_bytes() == damaged and other.read_bytes() == bytes_of_it, f"a file was replaced: {said}")
+    other.unlink()
+    note.write_bytes(data[7])
     source = place / "file.damaged"
     source.write_bytes(b"source")
     hold("can't have this name" in run("encode", store, source, *names, status=1), "a file was encoded under names of kept fragments")
@@ -794,8 +831,8 @@ def test_what_is_no_stripe(place, choose):
         (store / name).write_bytes(b"mine")
     (store / "folder.x0").mkdir()
     (store / "folder.x1").mkdir()
-    for command in ("scrub", "lost", "repair"):
-        said = run(command, store, status=0)
+    for command in (["scrub"], ["scrub", "--quiet"], ["scrub", "--json"], ["lost"], ["list"], ["repair"], ["repair", "--quiet"]):
+        said = run(*command, store, status=0)
         hold(said.count("2 files are named as fragments, and of no stripe: notes.x3 and others") == 1, said)
     (store / "a.x0").unlink()
     said = run("repair", store, "--dry-run", status=1)
@@ -832,12 +869,18 @@ def test_expected(place, choose):
             path.write_bytes(f"{digest(b'')}  b".encode() + b"\xff\n" + sums.encode())
             words = ["--sums", path] if kind == "given" else []
         run("repair", store, *words, status=0)
+        one = (store / "gone.x1").read_bytes()
         for path in store.glob("gone.[xyp]*"):
             path.unlink()
         for command in ("scrub", "repair"):
             hold("gone: no fragment can be read" in run(command, store, *words, status=1), f"{kind}: {command} passed over a lost stripe")
         if kind != "given":
             hold("3 stripes; 10 fragments lost" in run("lost", store, status=1), f"{kind}: lost passed over a lost stripe")
+        if kind != "description":
+            # With one fragment left it is a stripe too, and no file that is of none.
+            (store / "gone.x1").write_bytes(one)
+            said = run("repair", store, *words, status=1)
+            hold(said.count("gone.") == 9 and "not possible: 9" in said, f"{kind}: repair passed over what a stripe has lost: {said}")
 
 
 def encoded_disks(place, choose, name="note", code="6-2-2"):

@@ -251,8 +251,9 @@ def test_what_a_kill_leaves(place, choose):
             seen.add(file.read_text())
         time.sleep(0.005)
     process.send_signal(signal.SIGKILL)
-    said, _ = process.communicate(timeout=60)
+    said, errors = process.communicate(timeout=60)
     check(process.returncode == -signal.SIGKILL, f"it ended by itself: {process.returncode}")
+    check(errors == "", f"standard error, which is no terminal, got a line for one: {errors!r}")
     rows = rows_of(said)
     check(0 < len(rows) < many, f"{len(rows)} rows")
     for row in rows:
@@ -286,6 +287,22 @@ def test_output_that_ends(place, choose):
     said = process.stderr.read()
     check(process.wait(timeout=60) == 3, f"status {process.returncode}: {said}")
     check(is_whole(store, all_of_it), "the store isn't whole")
+
+
+def test_counters_of_a_run_that_fails(place, choose):
+    """The counters of a run whose rows can't be written say the status that it ends with, and the run says why."""
+    store, file = place / "s", place / "counters"
+    make(store, choose, ["a", "b"], 10)
+    for command in ("scrub", "repair"):
+        for words, whose in ((["--json"], "standard output"), (["--report", "/dev/full"], "/dev/full")):
+            file.unlink(missing_ok=True)
+            with open("/dev/full", "w") as full:
+                done = subprocess.run([PROGRAM, command, *words, "--progress", file, store], stdout=full, stderr=subprocess.PIPE, text=True,
+                                      timeout=60)
+            said = f"rebuild-store: {whose}: "
+            check(done.returncode == 3 and said in done.stderr and "No space left on device" in done.stderr, f"{command}: {done.stderr}")
+            found = counters(file.read_text(), command, str(store))
+            check(list(found) == ENDED and found["status"] == 3, f"{command}: {found}")
 
 
 def looks(trace):

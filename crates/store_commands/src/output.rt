@@ -32,20 +32,43 @@ pub(crate) fn say_alone(rt: &HostRuntime, store: &OpenStore, opening: &Opening<'
     };
 }
 
-/// Says a summary, unless none is wanted. It is on standard output, but where rows are there.
+/// Says a summary, unless none is wanted. It is on standard output, but where rows are there. Says whether it could be written.
 pub(crate) fn say_summary(
     rt: &HostRuntime,
     summary: String,
     test: &TestOptions<'_>,
-) -> io::Result<()> {
+) -> Result<bool, AllocError> {
     if test.quiet {
-        return Ok(());
+        return Ok(true);
     }
     if test.json {
         say(rt, Ok(summary))?;
-        return Ok(());
+        return Ok(true);
     }
-    write(rt, Ok(summary))
+    print_line(rt, summary)
+}
+
+/// Writes a line to standard output, or says why it can't be written there. Says whether it could.
+pub(crate) fn print_line(rt: &HostRuntime, line: String) -> Result<bool, AllocError> {
+    match write(rt, Ok(line)) {
+        Ok(()) => Ok(true),
+        Err(error) => {
+            say_unprinted(rt, error)?;
+            Ok(false)
+        }
+    }
+}
+
+/// Says why standard output can't be written.
+pub(crate) fn say_unprinted(rt: &HostRuntime, error: io::Error) -> Result<(), AllocError> {
+    if error.kind() == ErrorKind::OutOfMemory {
+        return Err(AllocError);
+    }
+    let why = words_of(rt.alloc(), &error)?;
+    say(
+        rt,
+        format!(in rt.alloc(); "rebuild-store: standard output: {why}"),
+    )
 }
 
 /// Refuses a report or counters whose folder isn't there, before anything is done.

@@ -29,12 +29,7 @@ pub fn lost(rt: &HostRuntime, options: &LostOptions<'_>) -> Result<u8, FileFault
     let opening = opening_of(&options.store);
     let store = open_store(rt, &opening)?;
     let form = if options.json { Rows::Json } else { Rows::Csv };
-    let status = write_requests(rt, &store, &opening, form);
-    drop(store);
-    match status {
-        Ok(status) => Ok(status),
-        Err(error) => Err(device(rt.alloc(), opening.folder, error)),
-    }
+    write_requests(rt, &store, &opening, form)
 }
 
 /// Writes the request list of an open store.
@@ -43,11 +38,14 @@ fn write_requests<'a>(
     store: &'a OpenStore,
     opening: &Opening<'a>,
     form: Rows,
-) -> io::Result<u8> {
+) -> Result<u8, FileFault> {
     let stripes = store.stripes(rt)?;
-    let mut output = BufWriter::new(rt.alloc(), io::writer(rt))?;
+    // Only memory can be refused.
+    let Ok(mut output) = BufWriter::new(rt.alloc(), io::writer(rt)) else {
+        return Err(FileFault::OutOfMemory);
+    };
     if form == Rows::Csv {
-        output.write_all(header_of(store.code).as_bytes())?;
+        print_to(rt, &mut output, header_of(store.code))?;
     }
     say_alone(rt, store, opening, false);
     let site = store.site_of(opening);
@@ -67,8 +65,7 @@ fn write_each<'a, W: Write>(
     stripes: &[Stripe<'_>],
     form: Rows,
     output: &mut W,
-) -> io::Result<Counts> {
-    let files = FolderStore::new(rt, *site);
+) -> Result<Counts, FileFault> {
     let mut counts = Counts {
         lost: 0,
         unlisted: 0,
@@ -76,31 +73,45 @@ fn write_each<'a, W: Write>(
         is_device: store.has_unlisted,
     };
     for stripe in stripes {
-        if store.found.described.contains(stripe.name) {
-            say_descriptions(rt, site, stripe, &mut counts)?;
-        }
-        write_of(rt, &files, site, stripe, form, &mut counts, output)?;
+        let requests = match requests_for(rt, store, site, stripe, form, &mut counts) {
+            Ok(requests) => requests,
+            Err(error) => return Err(device(rt.alloc(), site.folder, error)),
+        };
+        print_to(rt, output, requests.as_str())?;
     }
-    output.flush()?;
-    Ok(counts)
+    match output.flush() {
+        Ok(()) => Ok(counts),
+        Err(error) => Err(device(rt.alloc(), "standard output", error)),
+    }
 }
 
-/// Writes the requests of a stripe, and counts what was found.
-fn write_of<W: Write>(
-    rt: &HostRuntime,
-    files: &FolderStore<'_, SystemFolder<'_>>,
-    site: &Site<'_>,
+/// Writes a text to what standard output gets.
+fn print_to<W: Write>(rt: &HostRuntime, output: &mut W, text: &str) -> Result<(), FileFault> {
+    match output.write_all(text.as_bytes()) {
+        Ok(()) => Ok(()),
+        Err(error) => Err(device(rt.alloc(), "standard output", error)),
+    }
+}
+
+/// The requests for what is lost of a stripe, if its length is known. What was found of it and of its description is said and counted.
+fn requests_for<'a>(
+    rt: &'a HostRuntime,
+    store: &OpenStore,
+    site: &Site<'a>,
     stripe: &Stripe<'_>,
     form: Rows,
     counts: &mut Counts,
-    output: &mut W,
-) -> io::Result<()> {
-    let Some(length) = length_of(rt, files, site, stripe)? else {
-        counts.is_left = true;
-        return Ok(());
-    };
-    let requests = requests_of(rt, site, stripe, length, form, counts)?;
-    output.write_all(requests.as_bytes())
+) -> io::Result<String> {
+    if store.found.described.contains(stripe.name) {
+        say_descriptions(rt, site, stripe, counts)?;
+    }
+    match length_of(rt, &FolderStore::new(rt, *site), site, stripe)? {
+        Some(length) => requests_of(rt, site, stripe, length, form, counts),
+        None => {
+            counts.is_left = true;
+            Ok(String::new(rt.alloc()))
+        }
+    }
 }
 
 /// The exit status.

@@ -243,10 +243,15 @@ fn say_repaired(
         }
     }
     let is_reported = say_worked(rt, results, rows, held, &options.test)?;
-    if options.dry_run {
-        say_summary(rt, planned(alloc, results)?, &options.test)?;
-        return Ok(status_of_plan(&results.totals, is_reported));
-    }
-    say_summary(rt, repaired(alloc, results)?, &options.test)?;
-    Ok(status_of(&results.totals, is_reported))
+    let summary = if options.dry_run {
+        planned(alloc, results)?
+    } else {
+        repaired(alloc, results)?
+    };
+    let are_said = say_summary(rt, summary, &options.test)? && is_reported;
+    Ok(if options.dry_run {
+        status_of_plan(&results.totals, are_said)
+    } else {
+        status_of(&results.totals, are_said)
+    })
 }

@@ -1,13 +1,14 @@
 //! The command `scrub`.
 use crate::commands::{counters_of, say_worked, test_opening_of};
 use crate::output::row_stream::RowStream;
-use crate::output::{refuse_outputs, say_alone, say_summary};
+use crate::output::{print_line, refuse_outputs, say_alone, say_summary};
 use crate::work::tasks::scrub_task;
 use crate::work::{Opened, Stripes, Work, Worked, work_on};
+use std::alloc::AllocError;
 use std::io;
 use std::thread::Threads;
 use store_arguments::{ScrubOptions, TestOptions};
-use store_faults::{FileFault, device, write};
+use store_faults::{FileFault, device};
 use store_folder::Site;
 use store_opening::{OpenStore, Opening, open_store};
 use store_reports::{Results, RowSource, finding_lines, scrubbed, status_of};
@@ -94,15 +95,20 @@ fn say_scrubbed(
     held: String,
     test: &TestOptions<'_>,
 ) -> io::Result<u8> {
-    let alloc = rt.alloc();
-    if !test.json {
-        for done in results.all {
-            for line in finding_lines(alloc, results, done)? {
-                write(rt, Ok(line))?;
+    let are_said = test.json || say_findings(rt, results)?;
+    let is_reported = say_worked(rt, results, rows, held, test)? && are_said;
+    let is_said = !are_said || say_summary(rt, scrubbed(rt.alloc(), results)?, test)?;
+    Ok(status_of(&results.totals, is_reported && is_said))
+}
+
+/// Writes what was found to standard output. Says whether it could be written.
+fn say_findings(rt: &HostRuntime, results: &Results<'_>) -> Result<bool, AllocError> {
+    for done in results.all {
+        for line in finding_lines(rt.alloc(), results, done)? {
+            if !print_line(rt, line)? {
+                return Ok(false);
             }
         }
     }
-    let is_reported = say_worked(rt, results, rows, held, test)?;
-    say_summary(rt, scrubbed(alloc, results)?, test)?;
-    Ok(status_of(&results.totals, is_reported))
+    Ok(true)
 }

@@ -1,20 +1,11 @@
 //! Rows that are printed as they are known, an object on each line.
+use crate::output::say_unprinted;
 use std::alloc::AllocError;
-use std::io::{self, Error, ErrorKind};
+use std::io;
 use std::sync::atomic::{AtomicU64, Ordering};
-use store_faults::{say, words_of};
 use store_listing::Alone;
 use store_progress::allow_output;
 use store_reports::{Done, RowSource, Rows, add_alone, add_stripe};
-
-/// The state of a stream of which nothing has failed.
-const FINE: u64 = 0;
-
-/// That of one whose standard output may get no longer, by the limit on files' lengths.
-const TOO_LONG: u64 = 1;
-
-/// That of one that couldn't be printed is this and the number of the system's error, 0 if it has none.
-const FAILED: u64 = 2;
 
 /// Where threads print rows side by side. No thread waits for another: what can't be printed now is held back by its thread.
 #[derive(Drop)]
@@ -22,7 +13,8 @@ pub(crate) struct RowStream<'a> {
     source: RowSource<'a>,
     /// 1 while a thread prints.
     is_taken: AtomicU64,
-    state: AtomicU64,
+    /// 1 once something couldn't be printed, which was said.
+    has_failed: AtomicU64,
 }
 
 impl<'a> RowStream<'a> {
@@ -31,7 +23,7 @@ impl<'a> RowStream<'a> {
         RowStream {
             source,
             is_taken: AtomicU64::new(0),
-            state: AtomicU64::new(FINE),
+            has_failed: AtomicU64::new(0),
         }
     }
 
@@ -55,35 +47,19 @@ impl<'a> RowStream<'a> {
         Ok(())
     }
 
-    /// Prints what was held back, or drops it if something has failed before. Why printing failed is kept in the state, and `end` gives it.
+    /// Prints what was held back, or drops it if something has failed before. What fails is said, once.
     fn print(&self, rt: &HostRuntime, held: &mut String) -> Result<(), AllocError> {
-        if held.is_empty() || self.state.load(Ordering::SeqCst) != FINE {
-            held.clear();
-            return Ok(());
-        }
-        match allow_output(rt, held.len() as u64) {
-            Ok(()) => {
-                if let Err(error) = print!(rt; "{held}") {
-                    let number = u64::try_from(error.raw_os_error().unwrap_or(0)).unwrap_or(0);
-                    self.state
-                        .store(FAILED.saturating_add(number), Ordering::SeqCst);
-                }
-            }
-            Err(error) => {
-                self.state.store(TOO_LONG, Ordering::SeqCst);
-                let why = words_of(rt.alloc(), &error)?;
-                say(
-                    rt,
-                    format!(in rt.alloc(); "rebuild-store: standard output: {why}"),
-                )?;
+        if !held.is_empty() && self.has_failed.load(Ordering::SeqCst) == 0 {
+            if let Err(error) = printed(rt, held.as_str()) {
+                self.has_failed.store(1, Ordering::SeqCst);
+                say_unprinted(rt, error)?;
             }
         }
         held.clear();
         Ok(())
     }
 
-    /// Prints what threads have held back, and the rows of files that are of no stripe. Says whether all rows could be printed; an error of
-    /// standard output is given.
+    /// Prints what threads have held back, and the rows of files that are of no stripe. Says whether all rows could be printed.
     pub(crate) fn end(
         &self,
         rt: &HostRuntime,
@@ -92,15 +68,12 @@ impl<'a> RowStream<'a> {
     ) -> io::Result<bool> {
         add_alone(rt.alloc(), alone, Rows::Json, held)?;
         self.print(rt, held)?;
-        match self.state.load(Ordering::SeqCst) {
-            FINE => Ok(true),
-            TOO_LONG => Ok(false),
-            state => {
-                match i32::try_from(state.saturating_sub(FAILED)).unwrap_or(0) {
-                    0 => Err(Error::from(ErrorKind::Other)),
-                    number => Err(Error::from_raw_os_error(number)),
-                }
-            }
-        }
+        Ok(self.has_failed.load(Ordering::SeqCst) == 0)
     }
+}
+
+/// Prints a text, unless it is longer than a limit lets standard output get.
+fn printed(rt: &HostRuntime, text: &str) -> io::Result<()> {
+    allow_output(rt, text.len() as u64)?;
+    print!(rt; "{text}")
 }
