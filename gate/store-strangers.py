@@ -775,6 +775,25 @@ def test_disks_that_fail(place, choose):
     hold(tried > 0, f"no disk's listing was tried: {ran.kinds}")
 
 
+def test_files_that_may_not_be_read(place, choose):
+    """What a user may not read of one file keeps no other one from being held to its digest, or from being read."""
+    how, store = as_user(place), place / "readable"
+    store.mkdir()
+    for name in "abc":
+        (place / name).write_bytes(choose.randbytes(300))
+        run("encode", store, place / name, status=0)
+    for path in store.glob("a.*"):
+        path.chmod(0)
+    for shard in ("x0", "x1", "x2", "y0", "y1"):
+        (store / f"b.{shard}").write_bytes(bytes(100))
+    said = run("verify", store, status=3, **how)
+    hold("a.file: Permission denied" in said and "b: the fragments that are there don't give" in said, said)
+    hold("verified 1 file; not as described: 2" in said, said)
+    hold(said.count("c: ") == 0, said)
+    said = run("list", store, status=0, **how)
+    hold(all(f" {name}\n" in said for name in "abc"), said)
+
+
 def test_disks_of_others(place, choose):
     """A disk's folder that the user may not list, and one that is full of rights but one, cost no other disk its fragments."""
     how = as_user(place)
