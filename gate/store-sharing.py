@@ -112,10 +112,10 @@ def is_whole(folder, whole):
     check(found == whole, f"{sorted(set(found) ^ set(whole)) or 'other bytes'}")
 
 
-def begun(folder, *words, host=None):
+def begun(folder, *words, host=None, rate=200):
     """A run that has begun to write and goes on for long, since it may read few bytes a second."""
     process = subprocess.Popen(
-        [*as_host(host), PROGRAM, "repair", folder, "--rate", "200", "--workers", "1", *words],
+        [*as_host(host), PROGRAM, "repair", folder, "--rate", str(rate), "--workers", "1", *words],
         stdin=subprocess.DEVNULL, stdout=subprocess.DEVNULL, stderr=subprocess.DEVNULL,
     )
     until = time.monotonic() + SECONDS
@@ -232,6 +232,24 @@ def try_locks(kind, one, _other, choose):
                     check(MAYBE not in said and HELD not in said and (verb == "remove" or status == 0), what)
 
 
+def try_own_locks(kind, one, _other, choose):
+    """A run that takes over what an ended one has locked says there who it is, if nothing is known of locks; and at its end it takes away no
+    lock but its own."""
+    store, lock, host = one / "store", one / "store" / f"{PREFIX}part-1-of-1", socket.gethostname()
+    lay(store, choose)
+    lock.write_text(f"{ended_process()}@{host}\n")
+    process = begun(store, "--part", "1/1")
+    check(kind not in UNKNOWN or lock.read_text() == f"{process.pid}@{host}\n", f"the lock says {lock.read_text()!r}")
+    killed(process)
+    whole = lay(store, choose)
+    process = begun(store, "--part", "1/1", rate=10_000)
+    lock.unlink()
+    lock.write_text("4711@beta\n")
+    check(process.wait(SECONDS) == 0 and lock.read_text() == "4711@beta\n", "another run's lock was taken away")
+    lock.unlink()
+    is_whole(store, whole)
+
+
 def try_encode(kind, one, other, choose):
     """A run that encodes has the lock of all of the store while it works, and takes it away."""
     source = one / "source"
@@ -250,7 +268,7 @@ def try_encode(kind, one, other, choose):
     check(not runs_there(one / "files"), f"a lock is left: {runs_there(one / 'files')}")
 
 
-TRIES = [try_two, try_other_host, try_leftovers, try_locks, try_encode]
+TRIES = [try_two, try_other_host, try_leftovers, try_locks, try_own_locks, try_encode]
 
 
 def in_memory(kind, place):

@@ -990,6 +990,26 @@ def test_descriptions_that_differ(place, choose):
         (store / "disk4/note.file.damaged").unlink()
         (store / "disk4/note.file").write_bytes(line)
         hold(below(store) == whole, "something else has changed")
+    # What is longer than any description, or no regular file, is somebody else's and stays.
+    copy, before = store / "disk4/note.file", {"long": bytes(5_000), "link": None, "folder": None, "fifo": None}
+    for kind, bytes_of_it in before.items():
+        copy.unlink()
+        if kind == "long":
+            copy.write_bytes(bytes_of_it)
+        elif kind == "link":
+            copy.symlink_to("../disk5/note.file")
+        elif kind == "folder":
+            copy.mkdir()
+        else:
+            os.mkfifo(copy)
+        is_there = copy.lstat()
+        said = run("repair", store, *DISKS, "--replace-damaged", status=1)
+        hold("disk4/note.file: " in said and not copy.with_name("note.file.damaged").exists(), f"{kind}: {said}")
+        stays = copy.lstat()
+        hold((stays.st_ino, stays.st_mode, stays.st_size) == (is_there.st_ino, is_there.st_mode, is_there.st_size), f"{kind} was replaced")
+        copy.rmdir() if kind == "folder" else copy.unlink()
+        copy.write_bytes(line)
+    hold(below(store) == whole, "something else has changed")
     # Most copies are wrong: the sums know the right one, and nothing is believed without them.
     for number in range(6):
         (store / f"disk{number}/note.file").write_bytes(other)
