@@ -201,6 +201,15 @@ def test_damage(folder, code, choose):
         output, errors = run("read", again, "f0", status=0, text=False)
         named = damaged if set(damaged) <= set(places) else ()
         check(output == data and "read without" in errors and all(place in errors for place in named), f"{damaged}: {errors}")
+    # One is lost, and one of those that are read in its place is damaged.
+    for lost, damaged in itertools.product(("x0", "y2"), ("px", "py", "p0", "p1")):
+        for name, fragment in files_of(code, "f0", data).items():
+            (again / name).write_bytes(fragment)
+        (again / f"f0.{lost}").unlink()
+        damage(again / f"f0.{damaged}", choose)
+        output, errors = run("read", again, "f0", status=0, text=False)
+        is_read = damaged == f"p{lost[0]}"
+        check(output == data and (f"read without {damaged}" in errors) == is_read, f"{lost}, {damaged}: {errors}")
     for ending in ("file", "file.copy"):
         path = folder / f"f0.{ending}"
         path.write_bytes(path.read_bytes().replace(b" ", b"  ", 1))

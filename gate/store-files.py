@@ -739,17 +739,19 @@ def test_unmounted_disk(place, choose):
     $p repair --allow-unmounted $w {store}; echo "allowed $?"
     echo "made $(ls -A {store}/disk3 | wc -l)"
     $p encode --allow-unmounted --as b $w {store} {place}/a; echo "encoded $?"
+    umount {store}/disk8; umount {store}/disk9
+    $p repair $w {store}; echo "two $? $(ls -A {store}/disk8 {store}/disk9 | grep -c '^[ab]')"
     for n in 4 5 6 7; do umount {store}/disk$n; done
     echo "half $($p repair -n $w {store} 2>&1 | grep -c 'no disk is mounted')"
     """
     ended = subprocess.run(["unshare", "--mount", "bash", "-c", script], capture_output=True, text=True, timeout=SECONDS)
     if ended.returncode == 77 or "unshare" in ended.stderr:
         raise Skipped(f"nothing can be mounted here: {ended.stderr.strip()}")
-    kinds = ("repair", "plan", "scrub", "encode", "to", "left", "allowed", "made", "encoded", "half")
+    kinds = ("repair", "plan", "scrub", "encode", "to", "left", "allowed", "made", "encoded", "two", "half")
     words = [line for line in ended.stdout.splitlines() if line.split()[0] in kinds]
-    want = ["repair 3", "plan 3", "scrub 1", "encode 1", "to 0 2", "left 0", "allowed 0", "made 2", "encoded 0", "half 0"]
+    want = ["repair 3", "plan 3", "scrub 1", "encode 1", "to 0 2", "left 0", "allowed 0", "made 2", "encoded 0", "two 3 0", "half 0"]
     hold([line for line in words if not line.startswith(("repaired", "encoded 1 "))] == want, f"{words}: {ended.stdout}{ended.stderr}")
-    hold(ended.stderr.count("disk3: no disk is mounted there") == 4, ended.stderr)
+    hold(ended.stderr.count("disk3: no disk is mounted there") == 5 and ended.stderr.count("disk9: no disk is mounted there") == 1, ended.stderr)
 
 
 def test_quiet(place, choose):

@@ -71,6 +71,10 @@ def plain(name, place):
     return f"{name}.{place}"
 
 
+def disk(name, place):
+    return f"{place}/{name}"
+
+
 def hold_whole(folder, stripes, name_of):
     """Each fragment has its bytes, and nothing else is there."""
     wanted = {folder / name_of(name, place): data for name, fragments in stripes.items() for place, data in fragments.items()}
@@ -181,6 +185,19 @@ def test_parts(folder, code, choose):
     _, errors = run("repair", folder, "--code", code, status=1)
     check("another run works in this store" in errors, errors)
     os.close(held)
+    # A run divides the store into another number of parts, with its files in one folder or in one for each place.
+    for number, (name_of, names) in enumerate(((plain, []), (disk, ["--names", "{place}/{stripe}"]))):
+        store = folder.with_name(f"divided-{number}")
+        lay(store, stripes, name_of)
+        lock = store / ".rebuild-store-part-1-of-3"
+        lock.write_text("1@here\n")
+        held = os.open(lock, os.O_RDWR)
+        fcntl.flock(held, fcntl.LOCK_EX)
+        for part in ("1/2", "2/2", "1/3"):
+            _, errors = run("repair", store, "--code", code, *names, "--part", part, status=1)
+            check("another run works in this store" in errors, f"{part}: {errors}")
+        run("repair", store, "--code", code, *names, "--part", "2/3", status=0)
+        os.close(held)
     for wrong in ("0/3", "4/3", "1", "a/b", "1/0"):
         _, errors = run("repair", folder, "--part", wrong, status=2)
         check(errors == "error: --part takes I/N, with I from 1 to N\n", errors)
@@ -199,6 +216,27 @@ def test_another_folder(folder, code, choose):
     output, errors = run("repair", store, "--code", code, "--reads", "all", "--to", other, status=0)
     check({path.name: path.read_bytes() for path in store.iterdir()} == before, "the store was changed")
     check({path.name: path.read_bytes() for path in other.iterdir()} == {"a.x0": stripes["a"]["x0"], "b.p1": stripes["b"]["p1"]}, errors)
+
+
+def test_another_folder_of_disks(folder, code, choose):
+    """Folders of disks in another folder get the rebuilt fragments of theirs, and what a killed run left in them goes."""
+    names = ["--code", code, "--names", "{place}/{stripe}"]
+    stripes = stripes_of(code, choose, ["a", "b"])
+    store, other = folder / "store", folder / "other"
+    lay(store, stripes, disk)
+    left = {other / place / f".rebuild-store-{number:016x}" for number, place in enumerate(stripes["a"])}
+    for path in left:
+        path.parent.mkdir(parents=True)
+        path.write_bytes(b"half")
+    (store / "x0/a").unlink()
+    _, errors = run("repair", store, *names, "--to", other, status=0)
+    check(all(f"{path}: was left by a run that was killed, and is removed" in errors for path in left), errors)
+    there = {path for path in other.rglob("*") if path.is_file()}
+    check(there == {other / "x0/a"} and (other / "x0/a").read_bytes() == stripes["a"]["x0"], f"{there}")
+    (store / "y0/b").unlink()
+    for option in ("--report", "--progress"):
+        _, errors = run("repair", store, *names, "--to", other, option, other / "y0/b", status=2)
+        check("is a file of the store, and no place for a report" in errors and not (other / "y0/b").exists(), errors)
 
 
 def sums_of(folder):
@@ -309,7 +347,8 @@ def test_rows_of_a_stripe(folder, code, choose):
 def main():
     choose = random.Random(26)
     for code in DATA:
-        for test in (test_disks, test_place_first, test_stripes, test_parts, test_another_folder, test_sums, test_requests, test_reports,
+        for test in (test_disks, test_place_first, test_stripes, test_parts, test_another_folder,
+                     test_another_folder_of_disks, test_sums, test_requests, test_reports,
                      test_rows_of_a_stripe):
             with tempfile.TemporaryDirectory() as scratch:
                 folder = pathlib.Path(scratch) / "store"

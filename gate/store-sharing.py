@@ -31,7 +31,7 @@ PROGRAM = pathlib.Path(GIVEN[0] if GIVEN else ROOT / "crates/rebuild_store/out/r
 # The tools that make a file system in a file, with how many MiB it has to have.
 IN_FILES = {"ext4": 16, "xfs": 320, "btrfs": 128}
 # On these other hosts may be, and nothing is known of their locks; ramfs stands for all of which nothing is known.
-UNKNOWN = ("ramfs", "sshfs")
+UNKNOWN = ("ramfs", "over", "sshfs")
 SFTP = "/usr/lib/openssh/sftp-server"
 PREFIX = ".rebuild-store-"
 DIGITS = "0123456789abcdef"
@@ -279,6 +279,17 @@ def in_memory(kind, place):
     return folder, folder
 
 
+def over_hidden(_kind, place):
+    """A file system in memory of which nothing is known, over the mount of a local one, which is hidden by it."""
+    folder = place / "over"
+    hidden = folder / "hidden"
+    hidden.mkdir(parents=True)
+    system("mount", "-t", "tmpfs", "tmpfs", hidden)
+    system("mount", "-t", "ramfs", "ramfs", folder)
+    hidden.mkdir()
+    return hidden, hidden
+
+
 def in_file(kind, place):
     """A file system in a file, by one mount."""
     if not shutil.which(f"mkfs.{kind}"):
@@ -334,7 +345,8 @@ def by_nfs(_kind, place):
     return tuple(mounts)
 
 
-MOUNTS = {"tmpfs": in_memory, "ext4": in_file, "xfs": in_file, "btrfs": in_file, "ramfs": in_memory, "sshfs": by_sshfs, "nfs": by_nfs}
+MOUNTS = {"tmpfs": in_memory, "ext4": in_file, "xfs": in_file, "btrfs": in_file, "ramfs": in_memory, "over": over_hidden,
+          "sshfs": by_sshfs, "nfs": by_nfs}
 
 
 def try_all(place):
@@ -371,7 +383,8 @@ def main():
         try:
             try_all(place)
         finally:
-            for folder in [path for path in place.iterdir() if path.is_dir() and os.path.ismount(path)]:
+            mounts = [line.split()[4] for line in pathlib.Path("/proc/self/mountinfo").read_text().splitlines()]
+            for folder in reversed([it for it in mounts if it.startswith(f"{place}/")]):
                 subprocess.run(["umount", "--lazy", folder], check=False)
             if (place / "hosts").exists():
                 subprocess.run([ROOT / "tools/ssh-hosts.sh", "stop", place / "hosts"], check=False)

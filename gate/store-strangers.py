@@ -652,7 +652,9 @@ def test_root_in_others_folders(place, choose):
         data = lost.read_bytes()
         lost.unlink()
         for command in (["repair", store, *words], ["repair", store, *words, "--part", "1/1"], ["encode", store, source, *words],
-                        ["encode", "--replace", store, source, *words], ["remove", store, "s", *words]):
+                        ["encode", "--replace", store, source, *words], ["remove", store, "s", *words],
+                        ["repair", "--follow-links", store, *words], ["encode", "--follow-links", store, source, *words],
+                        ["remove", "--follow-links", store, "s", *words]):
             said = run(*command, status=2)
             hold(str(folder) in said and "--trust-writers" in said, said)
         hold(not lost.exists() and not list(store.glob(".rebuild-store-*")), "something was written where others may write")
@@ -660,6 +662,8 @@ def test_root_in_others_folders(place, choose):
         run("scrub", store, *words, status=1)
         run("repair", store, *words, "--trust-writers", status=0)
         hold(lost.read_bytes() == data, "the fragment isn't what it was")
+        run("encode", store, source, *words, "--trust-writers", status=0)
+        run("remove", store, "root-source", *words, "--trust-writers", status=0)
     own, to = place / "own", place / "others-to"
     lay(own, choose)
     (own / "s.x0").unlink()
@@ -853,6 +857,11 @@ def test_what_is_no_stripe(place, choose):
     for command in (["scrub"], ["scrub", "--quiet"], ["scrub", "--json"], ["lost"], ["list"], ["repair"], ["repair", "--quiet"]):
         said = run(*command, store, status=0)
         hold(said.count("2 files are named as fragments, and of no stripe: notes.x3 and others") == 1, said)
+    # One beside a stripe, at a place that the code hasn't.
+    (store / "b.y4").write_bytes(b"mine")
+    said = run("scrub", store, "--code", "6-2-2", status=0)
+    hold("3 files are named as fragments, and of no stripe: b.y4 and others" in said, said)
+    (store / "b.y4").unlink()
     (store / "a.x0").unlink()
     said = run("repair", store, "--dry-run", status=1)
     hold("notes.x3: is named as a fragment, and of no stripe" in said and "todo.p1: is named" in said, said)
@@ -1089,6 +1098,26 @@ def test_files_named_like_descriptions(place, choose):
         hold(not list(store.glob("disk*/note*")), "fragments stay")
         other.rmdir() if other.is_dir() and not other.is_symlink() else other.unlink()
         run("encode", store, source, *DISKS, status=0)
+
+
+def test_stripe_named_like_descriptions(place, choose):
+    """A stripe whose fragments have names of another one's descriptions is a stripe also if one of them is lost or cut short."""
+    store, data, _ = encoded_disks(place, choose)
+    fragments = list(stripe("6-2-2", 120, choose).values())
+    for number, fragment in enumerate(fragments):
+        (store / f"disk{number}/other.file").write_bytes(fragment)
+    (store / "disk0/other").write_bytes(b"of no stripe")
+    for number, fragment in enumerate(stripe("6-2-2", 500, choose).values()):
+        (store / f"disk{number}/paper").write_bytes(fragment)
+        (store / f"disk{number}/paper.file").write_bytes(fragments[number])
+    (store / "disk0/other").unlink()
+    (store / "disk3/other.file").unlink()
+    (store / "disk8/paper.file").write_bytes(fragments[8][:50])
+    said = run("lost", store, *DISKS, status=1)
+    hold("4 stripes; 2 fragments lost" in said, said)
+    said = run("repair", store, *DISKS, "--replace-damaged", status=0)
+    hold((store / "disk3/other.file").read_bytes() == fragments[3], f"a stripe was taken for descriptions: {said}")
+    hold((store / "disk8/paper.file").read_bytes() == fragments[8], f"a stripe was taken for descriptions: {said}")
 
 
 def test_descriptions_that_cannot_be_read(place, choose):

@@ -310,6 +310,17 @@ def test_counters_of_a_run_that_fails(place, choose):
             check(list(found) == ENDED and found["status"] == 3, f"{command}: {found}")
 
 
+def test_report_beside_rows_that_fail(place, choose):
+    """The report is written also if the rows that are printed as they are known can't be."""
+    store, report = place / "s", place / "report.csv"
+    all_of_it = make(store, choose, ["a", "b"], 10)
+    with open("/dev/full", "w") as full:
+        words = [PROGRAM, "repair", "--json", "--report", report, store]
+        check(subprocess.run(words, stdout=full, stderr=subprocess.DEVNULL, timeout=60).returncode == 3, "the rows were called written")
+    check(report.read_text() == "stripe,place,outcome,detail\na,x1,rebuilt,\nb,x1,rebuilt,\n", report.read_text())
+    check(is_whole(store, all_of_it), "the store isn't whole")
+
+
 def looks(trace):
     """At how many files of a store a run has looked, by what strace wrote."""
     return len(re.findall(r"(?:statx|newfstatat|lstat|stat)\([^)]*/a\d+\.\w\w", trace))
