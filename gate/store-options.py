@@ -194,8 +194,9 @@ def test_parts(folder, code, choose):
         held = os.open(lock, os.O_RDWR)
         fcntl.flock(held, fcntl.LOCK_EX)
         for part in ("1/2", "2/2", "1/3"):
-            _, errors = run("repair", store, "--code", code, *names, "--part", part, status=1)
-            check("another run works in this store" in errors, f"{part}: {errors}")
+            for trust in ([], ["--trust-writers"]):
+                _, errors = run("repair", store, "--code", code, *names, "--part", part, *trust, status=1)
+                check("another run works in this store" in errors, f"{part}: {errors}")
         run("repair", store, "--code", code, *names, "--part", "2/3", status=0)
         os.close(held)
     for wrong in ("0/3", "4/3", "1", "a/b", "1/0"):
@@ -216,6 +217,14 @@ def test_another_folder(folder, code, choose):
     output, errors = run("repair", store, "--code", code, "--reads", "all", "--to", other, status=0)
     check({path.name: path.read_bytes() for path in store.iterdir()} == before, "the store was changed")
     check({path.name: path.read_bytes() for path in other.iterdir()} == {"a.x0": stripes["a"]["x0"], "b.p1": stripes["b"]["p1"]}, errors)
+    # What is locked is the folder that is written into.
+    for folder, status in ((store, 0), (other, 1)):
+        held = os.open(folder, os.O_RDONLY)
+        fcntl.flock(held, fcntl.LOCK_EX)
+        for part in ([], ["--part", "1/1"]):
+            _, errors = run("repair", store, "--code", code, *part, "--to", other, status=status)
+            check((f"{other}: another run works in this store" in errors) == (status == 1), errors)
+        os.close(held)
 
 
 def test_another_folder_of_disks(folder, code, choose):

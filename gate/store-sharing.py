@@ -7,6 +7,7 @@ locks and unfinished files that are another host's.
 The mounts are in memory, in files by a loop device, or of this host by sshfs, in a namespace of mounts that ends with this script; another
 host is a namespace with another name. What can't be mounted here, or what root alone can try, is said to be skipped."""
 
+import errno
 import os
 import pathlib
 import random
@@ -22,6 +23,7 @@ import time
 sys.dont_write_bytecode = True
 ROOT = pathlib.Path(__file__).resolve().parent.parent
 sys.path.append(str(ROOT / "tools"))
+from faults import Calls  # noqa: E402
 from store import stripe  # noqa: E402
 
 # What this script says to itself, once it is in a namespace of its own.
@@ -232,6 +234,20 @@ def try_locks(kind, one, _other, choose):
                     check(MAYBE not in said and HELD not in said and (verb == "remove" or status == 0), what)
 
 
+def try_unwritten_lock(one, choose, lock, left):
+    """A run that can't write into its lock who it is ends, and takes away the file that it has made for it, but none that was there."""
+    calls, command = Calls(one), [PROGRAM, "repair", one / "store", "--part", "1/1"]
+    for text in ("", left):
+        lay(one / "store", choose)
+        number = calls.run(command).kinds.index("write") + 1
+        lay(one / "store", choose)
+        if text:
+            lock.write_text(text)
+        ended = calls.run(command, number, errno.ENOSPC)
+        check(ended.status == 3 and ended.paths[0] == str(lock), f"{ended.paths}: {ended.text()}")
+        check(lock.exists() == bool(text), f"after a lock couldn't be written, in which {text!r} was: {runs_there(one / 'store')}")
+
+
 def try_own_locks(kind, one, _other, choose):
     """A run that takes over what an ended one has locked says there who it is, if nothing is known of locks; and at its end it takes away no
     lock but its own."""
@@ -241,6 +257,8 @@ def try_own_locks(kind, one, _other, choose):
     process = begun(store, "--part", "1/1")
     check(kind not in UNKNOWN or lock.read_text() == f"{process.pid}@{host}\n", f"the lock says {lock.read_text()!r}")
     killed(process)
+    if kind in UNKNOWN:
+        try_unwritten_lock(one, choose, lock, f"{ended_process()}@{host}\n")
     whole = lay(store, choose)
     process = begun(store, "--part", "1/1", rate=10_000)
     lock.unlink()
