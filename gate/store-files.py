@@ -124,6 +124,21 @@ def test_list(place, choose):
              "state": states[name][0]} for name, length in lengths.items()]
     hold([json.loads(line) for line in out.splitlines()] == want, out)
     hold("3 files; not whole: 3" in err, err)
+    # Of the four that are lost one can be rebuilt, in its group, and the others can't.
+    def states():
+        return [line.split()[0] for line in run("list", *CODED, store, status=0)[0].decode().splitlines()]
+
+    whole = there(store)
+    for number in (0, 1, 2, 3, 8):
+        (store / f"disk{number}/b c").unlink(missing_ok=True)
+    hold(states() == ["degraded", "lost", "lost"], states())
+    # All fragments were cut to one length, which isn't that of the description.
+    for number in range(10):
+        (store / f"disk{number}/b c").write_bytes(b"")
+    out, _ = run("list", *CODED, store, status=0)
+    hold(b"lost 1 6-2-2 0/10 b c\n" in out, out)
+    for path in store.glob("disk?/b c"):
+        path.write_bytes(whole[str(path.relative_to(store))]) if str(path.relative_to(store)) in whole else path.unlink()
     for path in store.glob("disk*/a.file"):
         path.unlink()
     (store / "SHA256SUMS").unlink()

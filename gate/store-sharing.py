@@ -42,6 +42,8 @@ MAYBE = "may work in this store: if it has ended, remove this file"
 STAYS = "which may still work: remove it if that has ended"
 REMOVED = "was left by a run that was killed, and is removed"
 SECONDS = 300
+# A name may have dots.
+OTHER_HOST = "beta.example"
 passed, skipped = 0, []
 
 
@@ -57,9 +59,10 @@ def check(holds, what):
     passed += 1
 
 
-def ended(*words):
+def ended(*words, cwd=None):
     """Runs the program, and gives its status and all that it says."""
-    done = subprocess.run([PROGRAM, *map(str, words)], stdin=subprocess.DEVNULL, capture_output=True, text=True, timeout=SECONDS)
+    command = [PROGRAM, *map(str, words)]
+    done = subprocess.run(command, cwd=cwd, stdin=subprocess.DEVNULL, capture_output=True, text=True, timeout=SECONDS)
     return done.returncode, done.stdout + done.stderr
 
 
@@ -156,20 +159,20 @@ def try_other_host(kind, one, other, choose):
     """The same with a run of another host: if nothing is known of locks it is asked to be removed by hand, else it is as before."""
     for words in ((), ("--part", "1/1")):
         whole = lay(one / "store", choose)
-        process = begun(one / "store", *words, host="beta")
+        process = begun(one / "store", *words, host=OTHER_HOST)
         said = run("repair", other / "store", *words, status=1)
         check(HELD in said or (kind in UNKNOWN and MAYBE in said), f"two hosts worked at once: {said}")
         killed(process)
         left = runs_there(one / "store")
-        unfinished = [name for name in left if "@beta-" in name]
+        unfinished = [name for name in left if f"@{OTHER_HOST}-" in name]
         check(len(unfinished) == 1, f"no unfinished file names its host: {left}")
         if kind in UNKNOWN:
             said = run("repair", other / "store", *words, status=1)
-            check(f"process {unfinished[0].split('@')[0].rpartition('-')[2]} of the host beta {MAYBE}" in said, said)
+            check(f"process {unfinished[0].split('@')[0].rpartition('-')[2]} of the host {OTHER_HOST} {MAYBE}" in said, said)
             check(runs_there(one / "store") == left, "what another host may work on was taken away")
             (one / "store" / f"{PREFIX}part-1-of-1").unlink()
             said = run("repair", other / "store", *words, status=0)
-            check(STAYS in said and "of the host beta" in said, said)
+            check(STAYS in said and f"of the host {OTHER_HOST}" in said, said)
             check(runs_there(one / "store") == unfinished, f"{runs_there(one / 'store')}")
             (one / "store" / unfinished[0]).unlink()
         else:
@@ -259,6 +262,15 @@ def try_own_locks(kind, one, _other, choose):
     killed(process)
     if kind in UNKNOWN:
         try_unwritten_lock(one, choose, lock, f"{ended_process()}@{host}\n")
+    # By a link from another file system, and by a path from the folder that is worked in.
+    with tempfile.TemporaryDirectory() as outside:
+        link = pathlib.Path(outside) / "link"
+        link.symlink_to(store)
+        for path, folder in ((link, None), ("store", one), ("../store", store)):
+            lay(store, choose)
+            lock.write_text("4711@beta\n")
+            found, said = ended("repair", path, "--part", "1/1", cwd=folder)
+            check((found, MAYBE in said) == ((1, True) if kind in UNKNOWN else (0, False)), f"{path}: {found} {said}")
     whole = lay(store, choose)
     process = begun(store, "--part", "1/1", rate=10_000)
     lock.unlink()

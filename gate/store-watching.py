@@ -287,6 +287,12 @@ def test_output_that_ends(place, choose):
             path.unlink()
         with open(target, "w") as full:
             check(subprocess.run([PROGRAM, "--help"], stdout=full, timeout=60).returncode == 3, "help that can't be written is called done")
+    for words in (["scrub"], ["repair"], ["repair", "--dry-run"], ["lost"], ["list"], ["verify"]):
+        (store / "a3.x1").unlink(missing_ok=True)
+        process = start(*words, store)
+        process.stdout.close()
+        said = process.stderr.read()
+        check(process.wait(timeout=60) == 3 and "rebuild-store: standard output: Broken pipe" in said, f"{words}: {process.returncode}: {said}")
     process = start("repair", "--json", store)
     process.stdout.close()
     said = process.stderr.read()
