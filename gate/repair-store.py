@@ -368,7 +368,8 @@ def test_damage(folder, code, choose):
     check(path.read_bytes() == wrong, "a damaged fragment was replaced unasked")
     check((folder / f"{name}.{lost}").read_bytes() == fragments[lost], "a lost fragment didn't come back beside a damaged one")
     output, errors = run("repair", folder, "--code", code, "--replace-damaged", status=0)
-    check(f"{name}.{damaged}: is damaged" in errors and f"damaged: 1: {name}.{damaged}; " in output, f"what was replaced isn't said: {output}{errors}")
+    is_said = f"{name}.{damaged}: is damaged" in errors and f"damaged: 1: {name}.{damaged}; " in output
+    check(is_said, f"what was replaced isn't said: {output}{errors}")
     kept = folder / f"{name}.{damaged}.damaged"
     check(kept.read_bytes() == wrong, "the damaged fragment wasn't kept")
     kept.unlink()

@@ -766,7 +766,8 @@ def test_unmounted_disk(place, choose):
     words = [line for line in ended.stdout.splitlines() if line.split()[0] in kinds]
     want = ["repair 3", "plan 3", "scrub 1", "encode 1", "to 0 2", "left 0", "allowed 0", "made 2", "encoded 0", "two 3 0", "half 0"]
     hold([line for line in words if not line.startswith(("repaired", "encoded 1 "))] == want, f"{words}: {ended.stdout}{ended.stderr}")
-    hold(ended.stderr.count("disk3: no disk is mounted there") == 5 and ended.stderr.count("disk9: no disk is mounted there") == 1, ended.stderr)
+    said = [ended.stderr.count(f"disk{number}: no disk is mounted there") for number in (3, 9)]
+    hold(said == [5, 1], ended.stderr)
 
 
 def test_quiet(place, choose):

@@ -252,8 +252,8 @@ def try_unwritten_lock(one, choose, lock, left):
 
 
 def try_own_locks(kind, one, _other, choose):
-    """A run that takes over what an ended one has locked says there who it is, if nothing is known of locks; and at its end it takes away no
-    lock but its own."""
+    """A run that takes over what an ended one has locked says there who it is, if nothing is known of locks, and at its end it takes away
+    no lock but its own."""
     store, lock, host = one / "store", one / "store" / f"{PREFIX}part-1-of-1", socket.gethostname()
     lay(store, choose)
     lock.write_text(f"{ended_process()}@{host}\n")

@@ -292,7 +292,8 @@ def test_output_that_ends(place, choose):
         process = start(*words, store)
         process.stdout.close()
         said = process.stderr.read()
-        check(process.wait(timeout=60) == 3 and "rebuild-store: standard output: Broken pipe" in said, f"{words}: {process.returncode}: {said}")
+        is_said = "rebuild-store: standard output: Broken pipe" in said
+        check(process.wait(timeout=60) == 3 and is_said, f"{words}: {process.returncode}: {said}")
     process = start("repair", "--json", store)
     process.stdout.close()
     said = process.stderr.read()
