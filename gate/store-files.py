@@ -221,7 +221,16 @@ def test_read_to_a_file(place, choose):
     for name in ("SHA256SUMS", "new", "disk3/a", "disk3/new"):
         _, err = run("read", *DISKS, disks, "a", "-o", disks / name, status=2)
         hold("is in a folder of the store" in err and there(disks) == files, err)
-    run("read", store, "a", "-o", place / "nothere/out", status=3)
+    wide, names = place / "wide", ["--names", "{place}/{stripe}"]
+    run("encode", "--make-folders", "--code", "12-2-2", *names, wide, place / "a", status=0)
+    files = there(wide)
+    for folder in sorted(path for path in wide.iterdir() if path.is_dir()):
+        _, err = run("read", *names, wide, "a", "-o", folder / "new", status=2)
+        hold("is in a folder of the store" in err and there(wide) == files, err)
+    hold(len(files) == 16 + 17 and len([*wide.iterdir()]) == 17, sorted(files))
+    for path in (place / "nothere/out", "/dev/full"):
+        _, err = run("read", store, "a", "-o", path, status=3)
+        hold(err.startswith(f"rebuild-store: {path}: "), err)
     for name in ("x0", "x1", "x2", "y0", "y1"):
         (store / f"a.{name}").unlink()
     out.write_bytes(b"older")

@@ -289,11 +289,13 @@ def test_output_that_ends(place, choose):
             check(subprocess.run([PROGRAM, "--help"], stdout=full, timeout=60).returncode == 3, "help that can't be written is called done")
     for words in (["scrub"], ["repair"], ["repair", "--dry-run"], ["lost"], ["list"], ["verify"]):
         (store / "a3.x1").unlink(missing_ok=True)
-        process = start(*words, store)
-        process.stdout.close()
-        said = process.stderr.read()
-        is_said = "rebuild-store: standard output: Broken pipe" in said
-        check(process.wait(timeout=60) == 3 and is_said, f"{words}: {process.returncode}: {said}")
+        # Nobody reads from the beginning.
+        reader, writer = os.pipe()
+        os.close(reader)
+        done = subprocess.run([PROGRAM, *words, store], stdout=writer, stderr=subprocess.PIPE, text=True, timeout=60)
+        os.close(writer)
+        is_said = "rebuild-store: standard output: Broken pipe" in done.stderr
+        check(done.returncode == 3 and is_said, f"{words}: {done.returncode}: {done.stderr}")
     process = start("repair", "--json", store)
     process.stdout.close()
     said = process.stderr.read()
