@@ -545,7 +545,9 @@ def test_refusals(folder):
     run(status=2)
     run("repair", status=2)
     run("repair", folder, "--workers", "0", status=2)
-    run("repair", folder, "--workers", "17", status=2)
+    for workers in ("17", "4x", "-2", "", "1.5", "18446744073709551617"):
+        _, errors = run("repair", folder, f"--workers={workers}", status=2)
+        check("--workers" in errors, errors)
     run("repair", folder, "--code", "8-2-2", status=2)
     run("mend", folder, status=2)
     run("repair", folder / "absent", status=3)

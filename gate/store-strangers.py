@@ -194,6 +194,12 @@ def test_report_in_the_store(place, choose):
     for path in (place / "in-report", place / "in-chain"):
         run("repair", store, "--report", path, status=2)
         hold(there(store) == files, f"--report {path.name} changed the store")
+    # The same by paths from the folder that is worked in.
+    (place / "in-here").symlink_to(f"{store.name}/s.x0")
+    for path, folder in (("in-here", place), ("../in-here", store), ("s.x0", store)):
+        for option in ("--report", "--progress"):
+            said = run("repair", store, option, path, status=2, cwd=folder)
+            hold(there(store) == files, f"{option} {path} changed the store: {said}")
     run("repair", store, "--to", to, "--report", to / "s.x0", status=2)
     hold(not there(to), "a report was written in place of a fragment")
     run("repair", store, "--report", store / "report.csv", status=0)
@@ -794,6 +800,15 @@ def test_files_that_may_not_be_read(place, choose):
     hold("a.file: Permission denied" in said and "b: the fragments that are there don't give" in said, said)
     hold("verified 1 file; not as described: 2" in said, said)
     hold(said.count("c: ") == 0, said)
+    # A fragment that can't be read is said once.
+    for path in store.glob("a.*"):
+        path.chmod(0o644)
+    (store / "a.y2").chmod(0)
+    for words in (["scrub"], ["repair", "--dry-run", "--reads", "all"]):
+        said = run(*words, store, status=3, **how)
+        hold(said.count("a.y2: can't be read: Permission denied\n") == 1, said)
+    for path in store.glob("a.*"):
+        path.chmod(0)
     said = run("list", store, status=0, **how)
     hold(all(f" {name}\n" in said for name in "abc"), said)
 
@@ -1299,6 +1314,14 @@ def test_lengths_that_nothing_decides(place, choose):
         (store / f"s.{name}").write_bytes(files[f"s.{name}"][:300])
     for command in ("scrub", "repair", "lost"):
         hold("s: its fragments have different lengths" in run(command, store, status=1), f"{command} says something else")
+    # All but one were cut to one length, at which they belong together: the longer one says that they aren't whole.
+    for name, data in files.items():
+        (store / name).write_bytes(data[:300] if name != "s.y1" else data)
+    (store / "s.x0").unlink()
+    before = there(store)
+    for words in ([], ["--reads", "all"], ["--replace-damaged"]):
+        said = run("repair", store, *words, status=1)
+        hold("s: its fragments have different lengths" in said and there(store) == before, f"{words}: {said}")
 
 
 def test_code_that_places_say(place, choose):
