@@ -289,6 +289,15 @@ def test_names(folder, code, choose):
         check(output == data and f"disk0/{source.name}: left out" in errors, errors)
         run("repair", store, "--code", code, *names, status=0)
         check((store / f"disk0/{source.name}").read_bytes() == wanted[f"disk0/{source.name}"], "a shard isn't what it was")
+    # A folder that is there may have a file of another name, also one that is no text.
+    other = folder.with_name(folder.name + "-odd")
+    other.mkdir()
+    odd = os.fsencode(other) + b"/\xff"
+    with open(odd, "wb"):
+        pass
+    run("encode", other, source, "--code", code, status=0)
+    output, _ = run("read", other, source.name, status=0, text=False)
+    check(output == data and os.path.exists(odd), "a file isn't encoded beside one whose name is no text")
     # A link to a file is encoded as that file, with its own name, and stays a link.
     link = source.with_name(f"{folder.name}-link")
     link.symlink_to(source.name)

@@ -287,8 +287,9 @@ def test_output_that_ends(place, choose):
             path.unlink()
         with open(target, "w") as full:
             check(subprocess.run([PROGRAM, "--help"], stdout=full, timeout=60).returncode == 3, "help that can't be written is called done")
-    for words in (["scrub"], ["repair"], ["repair", "--dry-run"], ["lost"], ["list"], ["verify"]):
-        (store / "a3.x1").unlink(missing_ok=True)
+    for words in (["scrub"], ["repair", "--dry-run"], ["lost"], ["list"], ["verify"], ["repair"], ["repair", "--json"]):
+        for path in store.glob("*.x1"):
+            path.unlink()
         # Nobody reads from the beginning.
         reader, writer = os.pipe()
         os.close(reader)
@@ -296,10 +297,6 @@ def test_output_that_ends(place, choose):
         os.close(writer)
         is_said = "rebuild-store: standard output: Broken pipe" in done.stderr
         check(done.returncode == 3 and is_said, f"{words}: {done.returncode}: {done.stderr}")
-    process = start("repair", "--json", store)
-    process.stdout.close()
-    said = process.stderr.read()
-    check(process.wait(timeout=60) == 3, f"status {process.returncode}: {said}")
     check(is_whole(store, all_of_it), "the store isn't whole")
 
 
