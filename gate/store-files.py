@@ -477,6 +477,10 @@ def test_order_of_calls(place, choose):
         ended = calls.run(words, sync_after(again.kinds, nth), 5)
         hold(ended.paths == (str(above),), f"a folder that a killed run made isn't written to the disk: {ended.paths}")
         run(*words[1:], status=0)
+    # By a path that ends with a slash too.
+    ended = calls.run([PROGRAM, "encode", f"{place}/slash/", file])
+    ended = calls.run([PROGRAM, "encode", f"{place}/slashes//", file], sync_after(ended.kinds, 0), 5)
+    hold(ended.paths == (str(place),), f"a folder that was made isn't written to the disk: {ended.paths}")
     for damaged in (False, True):
         (store / "a/x1").write_bytes(bytes(150)) if damaged else (store / "a/x1").unlink()
         (store / "a/a.file.copy").unlink()
@@ -818,7 +822,10 @@ def test_descriptions_from_digests(place, choose):
         run("scrub", store, status=1)
         out, _ = run("repair", "-n", store, status=1)
         hold(b"2 descriptions can be made" in out, out)
-        run("repair", store, status=0)
+        if length > 100:
+            # Also where a file was cut short.
+            os.truncate(store / "a.y1", length // 12)
+        run("repair", "--replace-damaged", store, status=0)
         hold((store / "a.file").read_bytes() == text == (store / "a.file.copy").read_bytes(), f"{length}: another description")
         (store / "a.file").unlink()
         (store / "a.file.copy").unlink()

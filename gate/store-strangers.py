@@ -807,6 +807,13 @@ def test_files_that_may_not_be_read(place, choose):
     for words in (["scrub"], ["repair", "--dry-run", "--reads", "all"]):
         said = run(*words, store, status=3, **how)
         hold(said.count("a.y2: can't be read: Permission denied\n") == 1, said)
+    # The status says so too if it is rebuilt elsewhere.
+    to = place / "readable-to"
+    to.mkdir(mode=0o755)
+    os.chown(to, USER, USER)
+    said = run("repair", store, "--reads", "all", "--to", to, status=3, **how)
+    hold("a.y2: can't be read: Permission denied\n" in said, said)
+    hold((to / "a.y2").read_bytes() == (store / "a.y2").read_bytes(), f"what couldn't be read wasn't rebuilt: {said}")
     for path in store.glob("a.*"):
         path.chmod(0)
     said = run("list", store, status=0, **how)

@@ -327,6 +327,24 @@ def test_report_beside_rows_that_fail(place, choose):
     check(is_whole(store, all_of_it), "the store isn't whole")
 
 
+def test_many_stripes(place, choose):
+    """A thread goes on until all stripes are done, however many there are."""
+    store, many = place / "s", 1_300
+    store.mkdir()
+    stripes = [stripe("6-2-2", 1, choose) for _ in range(many)]
+    for number, fragments in enumerate(stripes):
+        for shard, data in fragments.items():
+            if shard not in ("x1", "p0"):
+                (store / f"a{number}.{shard}").write_bytes(data)
+    out, _ = run("repair", "-j", "1", store)
+    check(out.startswith(f"repaired {2 * many} fragments, "), out)
+    check(all((store / f"a{number}.x1").read_bytes() == it["x1"] for number, it in enumerate(stripes)), "a fragment isn't what it was")
+    for path in store.glob("*.p1"):
+        path.unlink()
+    out, _ = run("scrub", "-j", "1", store, status=1)
+    check(f"scrubbed {many} stripes: 0 damaged, {many} lost" in out and out.count(".p1: is lost") == many, out[-200:])
+
+
 def looks(trace):
     """At how many files of a store a run has looked, by what strace wrote."""
     return len(re.findall(r"(?:statx|newfstatat|lstat|stat)\([^)]*/a\d+\.\w\w", trace))
