@@ -320,6 +320,23 @@ def test_links(place, choose):
     hold((store / "b.p1").read_bytes() == files["b.p1"] and not (store / "deep").exists(), "a fragment lies elsewhere")
 
 
+def test_linked_fragments_of_a_file(place, choose):
+    """A fragment or a description that is a link is left out when a file is read or verified, unless links are followed."""
+    store, outside, file = place / "linked-file", place / "outside-file", place / "linked"
+    outside.mkdir()
+    file.write_bytes(choose.randbytes(3_000))
+    run("encode", store, file, status=0)
+    (outside / "x0").write_bytes((store / "linked.x0").read_bytes())
+    (store / "linked.x0").unlink()
+    (store / "linked.x0").symlink_to(outside / "x0")
+    for command, words in (("read", ["linked", "-o", place / "linked-read"]), ("verify", ["linked"])):
+        said = run(command, store, *words, status=0)
+        hold("linked.x0: left out" in said, f"{command} has read a link: {said}")
+        said = run(command, "--follow-links", store, *words, status=0)
+        hold("left out" not in said, f"{command} has left a link out: {said}")
+    hold((place / "linked-read").read_bytes() == file.read_bytes(), "another file was read")
+
+
 def test_linked_folders(place, choose):
     """A disk's folder that is a link leads nowhere, unless links are followed."""
     store, outside = place / "linked-disks", place / "outside-disk"
@@ -818,6 +835,26 @@ def test_files_that_may_not_be_read(place, choose):
         path.chmod(0)
     said = run("list", store, status=0, **how)
     hold(all(f" {name}\n" in said for name in "abc"), said)
+
+
+def test_fragments_that_fail_while_they_are_read(place, choose):
+    """A fragment that a disk fails to give is said as that, and not as one that differs from its digest."""
+    calls, store, tried = Calls(place), place / "failing", set()
+    files = lay(store, choose)
+    sums = "".join(f"{digest(data)}  {name}\n" for name, data in files.items())
+    (store / "SHA256SUMS").write_text(sums)
+    command = [PROGRAM, "scrub", "-j", "1", store]
+    for number, kind in enumerate(calls.run(command).kinds, 1):
+        if kind != "read":
+            continue
+        ended = calls.run(command, number, errno.EIO, rest="path")
+        name = pathlib.Path(ended.paths[0]).name
+        if name in files:
+            tried.add(name)
+            said = ended.out + ended.err
+            hold(ended.status == 3 and f"{name}: can't be read: Input/output error\n" in said, f"{name}: {ended.text()}")
+            hold("differs from the checksums" not in said, f"{name}: {ended.text()}")
+    hold(tried == set(files), f"only {sorted(tried)} are read")
 
 
 def test_disks_of_others(place, choose):
@@ -1461,6 +1498,16 @@ def test_sums_given(place, choose):
         said = run(command, store, "--report", place / "nowhere/report.csv", status=3)
     hold(not (store / "a.x0").exists(), "a repair was begun whose report has no folder")
     hold("nowhere/report.csv: No such file" in said, said)
+
+
+def test_control_characters(place, choose):
+    """Each control character of a name is written as the octal digits of its bytes."""
+    for code in [*range(1, 32), *range(127, 160)]:
+        letter = chr(code)
+        said = run("scrub", place / f"no{letter}store", status=3)
+        shown = {"\n": "\\n", "\r": "\\r", "\t": "\\t", "\a": "\\a", "\b": "\\b", "\v": "\\v", "\f": "\\f"}.get(letter)
+        shown = shown or "".join(f"\\{byte:03o}" for byte in letter.encode())
+        hold(f"/no{shown}store: No such file or directory\n" in said, f"{code}: {said!r}")
 
 
 def test_odd_names(place, choose):
