@@ -1098,6 +1098,31 @@ def test_descriptions_that_differ(place, choose):
     hold(ended.returncode == 0 and ended.stdout == data, ended.stderr.decode())
 
 
+def test_descriptions_that_cannot_be_replaced(place, choose):
+    """What the system refuses while a description is replaced is said in its words, and nothing has changed."""
+    how = as_user(place)
+    store, _, line = encoded_disks(place, choose)
+    for path in [store, *store.rglob("*")]:
+        os.chown(path, USER, USER)
+    copy = store / "disk4/note.file"
+    copy.write_bytes(line.replace(b"1001", b"1002"))
+    before = below(store)
+    # Nothing can be made there; and something can be made, but what is somebody else's can't be replaced.
+    for mode, error in ((0o555, "Permission denied"), (0o1777, "Operation not permitted")):
+        os.chown(copy.parent, 0, 0)
+        os.chown(copy, OTHER, OTHER)
+        copy.chmod(0o666)
+        copy.parent.chmod(mode)
+        said = run("repair", store, *DISKS, "--replace-damaged", status=3, **how)
+        hold("disk4/note.file: " in said and error in said and copy.read_bytes() == before["disk4/note.file"], said)
+        for path in copy.parent.glob("*.damaged"):
+            path.unlink()
+        hold(below(store) == before, sorted(set(below(store)) ^ set(before)))
+    os.chown(copy.parent, USER, USER)
+    run("repair", store, *DISKS, "--replace-damaged", status=0, **how)
+    hold((store / "disk4/note.file").read_bytes() == line, "the description wasn't replaced")
+
+
 def test_descriptions_of_before(place, choose):
     """A store whose only description is in its own folder is read, and a repair makes the copies."""
     store, data, line = encoded_disks(place, choose)
