@@ -217,6 +217,15 @@ def test_another_folder(folder, code, choose):
     output, errors = run("repair", store, "--code", code, "--reads", "all", "--to", other, status=0)
     check({path.name: path.read_bytes() for path in store.iterdir()} == before, "the store was changed")
     check({path.name: path.read_bytes() for path in other.iterdir()} == {"a.x0": stripes["a"]["x0"], "b.p1": stripes["b"]["p1"]}, errors)
+    # With --replace-damaged too: what is damaged is rebuilt there, and nothing is kept.
+    (store / "a.y1").write_bytes(wrong)
+    before = {path.name: path.read_bytes() for path in store.iterdir()}
+    for path in other.iterdir():
+        path.unlink()
+    output, errors = run("repair", store, "--code", code, "--reads", "all", "--to", other, "--replace-damaged", status=0)
+    check({path.name: path.read_bytes() for path in store.iterdir()} == before, "the store was changed")
+    wanted = {"a.x0": stripes["a"]["x0"], "a.y1": stripes["a"]["y1"], "b.p1": stripes["b"]["p1"]}
+    check({path.name: path.read_bytes() for path in other.iterdir()} == wanted, f"{output}{errors}")
     # What is locked is the folder that is written into.
     for folder, status in ((store, 0), (other, 1)):
         held = os.open(folder, os.O_RDONLY)
