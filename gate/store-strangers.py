@@ -313,11 +313,11 @@ def test_links(place, choose):
     # A link that leads to another one, whose text is meant from where that lies.
     (store / "b.p1").unlink()
     (store / "b.p1").symlink_to(outside / "next")
-    (outside / "next").symlink_to("deep/end")
-    (outside / "deep").mkdir()
+    (outside / "next").symlink_to("deep down/the end")
+    (outside / "deep down").mkdir()
     run("repair", store, "--follow-links", status=0)
-    hold((outside / "deep/end").read_bytes() == files["b.p1"] and (outside / "next").is_symlink(), "links weren't followed to their end")
-    hold((store / "b.p1").read_bytes() == files["b.p1"] and not (store / "deep").exists(), "a fragment lies elsewhere")
+    hold((outside / "deep down/the end").read_bytes() == files["b.p1"] and (outside / "next").is_symlink(), "links weren't followed to their end")
+    hold((store / "b.p1").read_bytes() == files["b.p1"] and not (store / "deep down").exists(), "a fragment lies elsewhere")
 
 
 def test_linked_fragments_of_a_file(place, choose):

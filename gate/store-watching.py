@@ -135,8 +135,10 @@ def test_places_of_counters(place, choose):
         check(said == f"rebuild-store: {store / name}: is a file of the store, and no place for a report\n", said)
     (place / "link").symlink_to(store / "b.x1")
     run("repair", "--progress", place / "link", store, status=2)
-    _, said = run("repair", "--progress", place / "none/counters", store, status=3)
-    check("none/counters: No such file or directory" in said, said)
+    for command in ("repair", "scrub"):
+        for option in ("--progress", "--report"):
+            out, said = run(command, option, place / "none/counters", store, status=3)
+            check(said == f"rebuild-store: {place / 'none/counters'}: No such file or directory\n" and not out, out + said)
     _, said = run("repair", "--report", file, "--progress", file, store, status=2)
     check(said == "error: --report and --progress take two files\n", said)
     check({path.name: path.read_bytes() for path in store.iterdir()} == before and not file.exists(), "something was written")
@@ -151,8 +153,11 @@ def test_places_of_counters(place, choose):
     check(counters(reader.communicate(timeout=60)[0], "scrub", str(store))["status"] == 0, "the FIFO has something else")
     check(stat.S_ISFIFO((place / "fifo").stat().st_mode), "the FIFO is gone")
     if os.path.exists("/dev/full"):
-        _, said = run("scrub", "--progress", "/dev/full", store, status=3)
-        check("rebuild-store: /dev/full: the counters can't be written: No space left on device\n" == said, said)
+        for lost in (False, True):
+            if lost:
+                (store / "a.x1").unlink()
+            _, said = run("scrub", "--progress", "/dev/full", store, status=3)
+            check("rebuild-store: /dev/full: the counters can't be written: No space left on device\n" == said, said)
 
 
 def test_rates(place, choose):
