@@ -242,6 +242,21 @@ def test_names_that_are_there(folder, code, choose):
         check("new.p0: is there already" in errors, errors)
         check({it.name for it in folder.iterdir()} == {*before, "new.p0"}, "a name was given beside another file")
         path.rmdir() if path.is_dir() and not path.is_symlink() else path.unlink()
+    # The first names are the file's own, with its bytes, and a later one isn't.
+    own = fragments_of(code, b"new")
+    for place, data in (("x0", own["x0"]), ("y0", own["y0"]), ("p1", b"other")):
+        (folder / f"new.{place}").write_bytes(data)
+    _, errors = run("encode", folder, other / "new", "--code", code, status=1)
+    check("new.p1: is there already, with other bytes" in errors, errors)
+    check({it.name for it in folder.iterdir()} == {*before, "new.x0", "new.y0", "new.p1"}, "a name was given beside another file")
+    for path in folder.glob("new.*"):
+        path.unlink()
+    # A copy of the description that is gone is made again, whichever it is.
+    for ending in ("file", "file.copy"):
+        (folder / f"f0.{ending}").unlink()
+        run("encode", folder, source, "--code", code, status=0)
+        there = {path.name: path.read_bytes() for path in folder.iterdir()}
+        check(there == {name: data for name, (data, _) in before.items()}, f"f0.{ending} wasn't made again")
     if code == "6-2-2":
         (folder / "new.x3").write_bytes(b"")
         _, errors = run("encode", folder, other / "new", "--code", code, status=1)

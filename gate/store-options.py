@@ -214,7 +214,14 @@ def test_another_folder(folder, code, choose):
     wrong = bytes(300)
     (store / "b.p1").write_bytes(wrong)
     before = {path.name: path.read_bytes() for path in store.iterdir()}
+    for path in store.iterdir():
+        path.chmod(0o640)
+        if os.geteuid() == 0:
+            os.chown(path, 1234, 1235)
     output, errors = run("repair", store, "--code", code, "--reads", "all", "--to", other, status=0)
+    for path in other.iterdir():
+        made, like = path.stat(), (store / "a.x1").stat()
+        check((made.st_mode, made.st_uid, made.st_gid) == (like.st_mode, like.st_uid, like.st_gid), f"{path.name}: {made}")
     check({path.name: path.read_bytes() for path in store.iterdir()} == before, "the store was changed")
     check({path.name: path.read_bytes() for path in other.iterdir()} == {"a.x0": stripes["a"]["x0"], "b.p1": stripes["b"]["p1"]}, errors)
     # With --replace-damaged too: what is damaged is rebuilt there, and nothing is kept.

@@ -316,8 +316,9 @@ def test_links(place, choose):
     (outside / "next").symlink_to("deep down/the end")
     (outside / "deep down").mkdir()
     run("repair", store, "--follow-links", status=0)
-    hold((outside / "deep down/the end").read_bytes() == files["b.p1"] and (outside / "next").is_symlink(), "links weren't followed to their end")
-    hold((store / "b.p1").read_bytes() == files["b.p1"] and not (store / "deep down").exists(), "a fragment lies elsewhere")
+    hold((outside / "deep down/the end").read_bytes() == files["b.p1"], "links weren't followed to their end")
+    hold((outside / "next").is_symlink(), "a link was replaced")
+    hold((store / "b.p1").read_bytes() == files["b.p1"] and not (store / "deep down").exists(), "it lies elsewhere")
 
 
 def test_linked_fragments_of_a_file(place, choose):
