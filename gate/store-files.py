@@ -21,6 +21,7 @@ import subprocess
 import sys
 import tempfile
 import threading
+import time
 
 # No compiled copy of the modules is left beside them.
 sys.dont_write_bytecode = True
@@ -644,6 +645,16 @@ def test_standard_input(place, choose):
     hold(decoded(store, "empty") == b"", "nothing isn't what it was")
     run("encode", store, source(place, "file", b"other"), "--as", "name", status=0)
     hold(decoded(store, "name") == b"other" and not (store / "file.x0").exists(), "a file has another name than was given")
+    # What it is kept in is nobody else's to read, whatever the mask.
+    process = subprocess.Popen([PROGRAM, "encode", store, "-", "--as", "kept"], stdin=subprocess.PIPE, stdout=subprocess.DEVNULL, umask=0)
+    process.stdin.write(bytes(300_000))
+    process.stdin.flush()
+    until, kept = time.monotonic() + SECONDS, []
+    while not kept and time.monotonic() < until:
+        kept = [path.stat().st_mode for path in store.glob(".rebuild-store-*") if path.exists()]
+        time.sleep(0.01)
+    process.stdin.close()
+    hold(process.wait(SECONDS) == 0 and kept == [stat.S_IFREG | 0o600], f"{kept}")
     before = there(store)
     _, err = run("encode", store, "-", "--as", "in", status=1, given=b"other")
     hold("--replace replaces the file" in err and there(store) == before, f"{err}: {sorted(there(store))}")
