@@ -825,6 +825,16 @@ def test_files_that_may_not_be_read(place, choose):
     for words in (["scrub"], ["repair", "--dry-run", "--reads", "all"]):
         said = run(*words, store, status=3, **how)
         hold(said.count("a.y2: can't be read: Permission denied\n") == 1, said)
+    # A stripe of which too little can be read says nothing of the code.
+    few = place / "readable-few"
+    lay(few, choose)
+    few.chmod(0o777)
+    for shard in ("x0", "x1", "y0", "y1", "p0", "p1"):
+        (few / f"s.{shard}").chmod(0)
+    (few / "s.x2").unlink()
+    for words in ([], ["--reads", "all"]):
+        said = run("repair", few, *words, status=3, **how)
+        hold("is this the store?" not in said and "s.p0: can't be read: Permission denied\n" in said, said)
     # The status says so too if it is rebuilt elsewhere.
     to = place / "readable-to"
     to.mkdir(mode=0o755)
@@ -856,6 +866,15 @@ def test_fragments_that_fail_while_they_are_read(place, choose):
             hold(ended.status == 3 and f"{name}: can't be read: Input/output error\n" in said, f"{name}: {ended.text()}")
             hold("differs from the checksums" not in said, f"{name}: {ended.text()}")
     hold(tried == set(files), f"only {sorted(tried)} are read")
+    # Nor does it say that this is another store.
+    (store / "s.x0").unlink()
+    command, tried = [PROGRAM, "repair", "-n", "--reads", "all", "-j", "1", store], set()
+    for number, kind in enumerate(calls.run(command).kinds, 1):
+        if kind == "read":
+            ended = calls.run(command, number, errno.EIO, rest="path")
+            tried.add(pathlib.Path(ended.paths[0]).name)
+            hold(ended.status in (1, 3) and "is this the store?" not in ended.err, ended.text())
+    hold(tried >= set(files) - {"s.x0"}, f"only {sorted(tried)} are read")
 
 
 def test_disks_of_others(place, choose):
