@@ -147,6 +147,11 @@ def test_stripes(folder, code, choose):
     check(len(output.splitlines()) == 1, output)
     _, errors = run("repair", folder, "--code", code, "--stripes", names.with_name("absent"), status=3)
     check("absent: No such file or directory" in errors, errors)
+    # The store's own digests are looked at beside such a list too.
+    (folder / "SHA256SUMS").write_text(sums_of(folder))
+    (folder / "a.y1").write_bytes(bytes(300))
+    output, _ = run("scrub", folder, "--code", code, "--stripes", names, status=1)
+    check("a.y1: differs from the checksums\n" in output and "none at all: no fragment can be read\n" in output, output)
 
 
 def part_of(name, parts):
@@ -187,7 +192,7 @@ def test_parts(folder, code, choose):
     os.close(held)
     # A run divides the store into another number of parts, with its files in one folder or in one for each place.
     for number, (name_of, names) in enumerate(((plain, []), (disk, ["--names", "{place}/{stripe}"]))):
-        store = folder.with_name(f"divided-{number}")
+        store = folder.with_name(f"divided-of-{number}")
         lay(store, stripes, name_of)
         lock = store / ".rebuild-store-part-1-of-3"
         lock.write_text("1@here\n")

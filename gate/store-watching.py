@@ -109,11 +109,17 @@ def test_counters_at_the_end(place, choose):
     found = counters(file.read_text(), "scrub", str(store))
     check(found["units"] == found["units_done"] == many and found["damaged"] == 1 and found["status"] == 1, f"{found}")
     check(found["bytes"] == found["bytes_done"] == 10 * many * length, f"{found}")
+    run("repair", "--reads", "all", "--replace-damaged", "--progress", file, store)
+    found = counters(file.read_text(), "repair", str(store))
+    check((found["damaged"], found["left"], found["status"]) == (1, 0, 0), f"{found}")
+    (store / "a3.x0.damaged").unlink()
+    check(is_whole(store, all_of_it), "the store isn't whole")
     (store / "a2.y1").unlink()
     (store / "a5.px").unlink()
     run("scrub", "--progress", file, store, status=1)
     found = counters(file.read_text(), "scrub", str(store))
     check(found["bytes"] == found["bytes_done"] == (10 * many - 2) * length and found["left"] == 2, f"{found}")
+    check(found["damaged"] == 0, f"{found}")
 
 
 def test_counters_of_odd_names(place, choose):
