@@ -152,6 +152,14 @@ def test_stripes(folder, code, choose):
     (folder / "a.y1").write_bytes(bytes(300))
     output, _ = run("scrub", folder, "--code", code, "--stripes", names, status=1)
     check("a.y1: differs from the checksums\n" in output and "none at all: no fragment can be read\n" in output, output)
+    # Each fragment that no list can ask for is named, however few survive.
+    odd = stripes_of(code, choose, ["odd name"])
+    lay(folder, odd, plain)
+    gone = [place for place in odd["odd name"] if place not in ("x0", "y1", "p0")]
+    for place in gone:
+        (folder / f"odd name.{place}").unlink()
+    _, errors = run("lost", folder, "--code", code, status=1)
+    check(all(f"odd name.{place}: a list can't ask for it" in errors for place in gone), errors)
 
 
 def part_of(name, parts):
