@@ -1618,6 +1618,12 @@ def test_dry_run(place, choose):
             file.truncate(1 << 38)
     said = run("repair", holes, "--dry-run", status=1)
     hold("256 GiB; 1 lost in 1; 1 can be rebuilt (0 unchecked), 0 can't; reads 2 TiB, writes 256 GiB\n" in said, said)
+    empty = place / "of-nothing"
+    lay(empty, choose, length=0)
+    (empty / "s.x0").unlink()
+    (empty / "s.p1").unlink()
+    said = run("repair", empty, "--dry-run", status=1)
+    hold("1 stripe of 6-2-2, 0 bytes; 2 lost in 1; 2 can be rebuilt (2 unchecked), 0 can't; reads 0 bytes, writes 0 bytes\n" in said, said)
     damaged = place / "damaged"
     lay(damaged, choose)
     (damaged / "s.x0").write_bytes(bytes(600))
