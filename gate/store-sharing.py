@@ -272,7 +272,7 @@ def try_own_locks(kind, one, _other, choose):
             found, said = ended("repair", path, "--part", "1/1", cwd=folder)
             check((found, MAYBE in said) == ((1, True) if kind in UNKNOWN else (0, False)), f"{path}: {found} {said}")
     whole = lay(store, choose)
-    process = begun(store, "--part", "1/1", rate=10_000)
+    process = begun(store, "--part", "1/1", rate=5_000)
     lock.unlink()
     lock.write_text("4711@beta\n")
     check(process.wait(SECONDS) == 0 and lock.read_text() == "4711@beta\n", "another run's lock was taken away")
