@@ -247,8 +247,8 @@ def test_another_folder(folder, code, choose):
     wanted = {"a.x0": stripes["a"]["x0"], "a.y1": stripes["a"]["y1"], "b.p1": stripes["b"]["p1"]}
     check({path.name: path.read_bytes() for path in other.iterdir()} == wanted, f"{output}{errors}")
     # What is locked is the folder that is written into.
-    for folder, status in ((store, 0), (other, 1)):
-        held = os.open(folder, os.O_RDONLY)
+    for locked, status in ((store, 0), (other, 1)):
+        held = os.open(locked, os.O_RDONLY)
         fcntl.flock(held, fcntl.LOCK_EX)
         for part in ([], ["--part", "1/1"]):
             _, errors = run("repair", store, "--code", code, *part, "--to", other, status=status)

@@ -38,7 +38,7 @@ chroot root depmod "$version"
 
 rm -rf root/work
 mkdir -p root/work/gate root/work/tools root/work/crates/rebuild_store/out
-cp "$root/gate/store-sharing.py" root/work/gate/
+cp "$root/gate/"{store-sharing.py,faults.py} root/work/gate/
 cp "$root/tools/"{store.py,reference.py} root/work/tools/
 cp "$program" root/work/crates/rebuild_store/out/rebuild_store
 cat > root/init <<'END'
