@@ -1413,6 +1413,81 @@ def test_lengths_that_nothing_decides(place, choose):
         hold("s: its fragments have different lengths" in said and there(store) == before, f"{words}: {said}")
 
 
+def lay_listed(store, choose, listed):
+    """A store of one stripe with the digests of these fragments; gives the bytes of its fragments by their names."""
+    files = lay(store, choose)
+    (store / "SHA256SUMS").write_text("".join(f"{digest(files[name])}  {name}\n" for name in listed))
+    return files
+
+
+def test_length_that_digests_show(place, choose):
+    """The files that have their digests say how long the fragments of a stripe are: where a file is longer, where too few survive for
+    checks, and where more files were cut, which belong together, too. What is longer is replaced if that is asked for."""
+    store = place / "longer"
+    files = lay_listed(store, choose, [f"s.{name}" for name in ("x0", "x1", "y0", "px")])
+    (store / "s.x1").write_bytes(files["s.x1"] + b"more")
+    (store / "s.x0").unlink()
+    hold("s.x1: has another length" in run("scrub", store, status=1), "a longer fragment isn't said")
+    hold("rebuild,s,x0,600," in run("lost", store, status=1), "a lost fragment beside a longer one isn't listed")
+    run("repair", store, status=1)
+    hold((store / "s.x0").read_bytes() == files["s.x0"], "what is lost beside a longer fragment isn't rebuilt")
+    hold((store / "s.x1").read_bytes() == files["s.x1"] + b"more", "a longer fragment was replaced")
+    run("repair", store, "--replace-damaged", status=0)
+    now = there(store)
+    hold(now.pop("s.x1.damaged") == files["s.x1"] + b"more", "the longer fragment isn't kept")
+    hold(all(now[name] == data for name, data in files.items()), "the longer fragment isn't replaced by what it was")
+
+    # Six survivors have no checks; the four others were cut to one length, or are as long as two were.
+    for cut in (lambda data: data[:300], lambda data: data + bytes(9)):
+        shutil.rmtree(store)
+        files = lay_listed(store, choose, ["s.p0", "s.x2"])
+        for name in ("s.x0", "s.y1", "s.py", "s.p1"):
+            (store / name).write_bytes(cut(files[name]))
+        run("repair", store, "--replace-damaged", status=1)
+        hold(all((store / name).exists() for name in files), "a fragment is gone")
+        odd = {name: (store / name).read_bytes() for name in ("s.x0", "s.y1", "s.py", "s.p1")}
+        hold(odd == {name: cut(files[name]) for name in odd}, "a fragment was replaced that no check covers")
+        # Three of them are lost: they are rebuilt, unchecked, and the fourth stays.
+        for name in ("s.x0", "s.py", "s.p1"):
+            (store / name).unlink()
+        said = run("repair", store, "--replace-damaged", status=1)
+        hold("s.y1: isn't replaced: no check covers" in said, said)
+        left = {**files, "s.y1": odd["s.y1"]}
+        hold(there(store).items() >= left.items(), "the lost fragments aren't what they were, or another was replaced")
+
+    # All but two were cut: the others belong together, and aren't what is listed.
+    shutil.rmtree(store)
+    files = lay_listed(store, choose, ["s.x1", "s.x0"])
+    for name, data in files.items():
+        (store / name).write_bytes(data if name in ("s.x1", "s.x2", "s.px") else data[:100])
+    said = run("repair", store, "--replace-damaged", status=1)
+    hold("different lengths" not in said and "s.y0: " in said, said)
+
+
+def test_lengths_that_digests_do_not_decide(place, choose):
+    """Digests of files of two lengths decide nothing, nor does one that a file differs from; an empty file may be what is listed."""
+    store = place / "two"
+    files = lay_listed(store, choose, [])
+    (store / "s.x1").write_bytes(files["s.x1"][:300])
+    sums = [f"{digest((store / f's.{name}').read_bytes())}  s.{name}\n" for name in ("x1", "y0")]
+    (store / "SHA256SUMS").write_text("".join(sums))
+    before = there(store)
+    for words in (["scrub", store], ["repair", store, "--replace-damaged"]):
+        hold("s: its fragments have different lengths" in run(*words, status=1), f"{words} decides between two digests")
+    hold(there(store) == before, "a store was changed though two digests say different lengths")
+    # Only the one that is no longer what its digest says is longer, and the others have no digest.
+    (store / "SHA256SUMS").write_text(f"{digest(b'other')}  s.x1\n")
+    for name, data in files.items():
+        (store / name).write_bytes(data[:300] if name != "s.x1" else data)
+    hold("s: its fragments have different lengths" in run("scrub", store, status=1), "a digest that nothing has shows a length")
+    # Nothing but the digest of what is empty says that a stripe has no bytes.
+    for name in files:
+        (store / name).write_bytes(b"" if name != "s.x1" else b"more")
+    hold("s: its fragments have different lengths" in run("scrub", store, status=1), "empty files show a length")
+    (store / "SHA256SUMS").write_text(f"{digest(b'')}  s.y0\n")
+    hold("s.x1: has another length" in run("scrub", store, status=1), "the digest of an empty file shows no length")
+
+
 def test_code_that_places_say(place, choose):
     """Without a code the places say it: half of the stripes are enough for 12-2-2, and a file alone says nothing."""
     store, narrow = place / "half", place / "narrow"

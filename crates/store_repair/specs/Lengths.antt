@@ -46,12 +46,22 @@ abbrev pub IsConfirmed : CodeName → ℕ → List ℕ → Files → Type 0
 IsConfirmed code len stripe files =
     (survives : Place → Bool) × AreChecked code survives len × AreOfOneStripe code survives len stripe files
 
--- what is said of a stripe's length: that each of its files has it, or that checks confirm it
-abbrev pub IsStripeLength : CodeName → List FoundName → List ℕ → ShownFiles → StripeLength → Type 0
-IsStripeLength code files stripe shown stripe_length.NoFiles = Unit {0}
-IsStripeLength code files stripe shown (stripe_length.Known len) =
-    HaveOneLength code files len ⊎ IfSome shown (IsConfirmed code len stripe)
-IsStripeLength code files stripe shown (stripe_length.Undecided lengths) = Unit {0}
+-- a digest shows a length: the store knows one of a file of that length at a place of the code
+abbrev pub IsDigested : CodeName → List FoundName → List ℕ → (List ℕ → Place → Type 0) → ℕ → Type 0
+IsDigested code files stripe listed len =
+    (p : Place) × ((has_place (tables_of code) p && has_file files len p) ≡ true) × listed stripe p
+
+-- checks confirm a length, or a digest shows it
+abbrev pub IsShownLength : CodeName → List FoundName → List ℕ → ShownFiles → (List ℕ → Place → Type 0) → ℕ → Type 0
+IsShownLength code files stripe shown listed len =
+    IfSome shown (IsConfirmed code len stripe) ⊎ IsDigested code files stripe listed len
+
+-- what is said of a stripe's length: that each of its files has it, that checks confirm it, or that a digest shows it
+abbrev pub IsStripeLength : CodeName → List FoundName → List ℕ → ShownFiles → (List ℕ → Place → Type 0) → StripeLength → Type 0
+IsStripeLength code files stripe shown listed stripe_length.NoFiles = Unit {0}
+IsStripeLength code files stripe shown listed (stripe_length.Known len) =
+    HaveOneLength code files len ⊎ IsShownLength code files stripe shown listed len
+IsStripeLength code files stripe shown listed (stripe_length.Undecided lengths) = Unit {0}
 
 -- what holds of a length, where it is known
 abbrev pub IfKnown : (ℕ → Type 0) → StripeLength → Type 0

@@ -1,10 +1,13 @@
 //! How many bytes the fragments of a stripe have. Where its files don't agree their checks decide, and never their number.
 ghost use Rattle.std.specs.Prelude.{◌≡◌, ◌≢◌, ◌&&◌, ℕ, [], true, IfNone, IfOk, IfSome, MatchOption, OnOk};
+ghost use Rattle.lrc_code.specs.declared.places.Place.{Place};
 ghost use Rattle.lrc_code.specs.Code.{has_place};
 ghost use Rattle.lrc_code.specs.Codes.{tables_of};
+ghost use Rattle.lrc_code.specs.Sets.{is_in};
 ghost use Rattle.store_repair.specs.Findings.{is_without_length};
 ghost use Rattle.store_repair.specs.Lengths.{HasLengthAt, HaveNoCommonLength, HaveOneLength, IfKnown, IfNotKnown};
-ghost use Rattle.store_repair.specs.Lengths.{IsConfirmed, IsStripeLength};
+ghost use Rattle.store_repair.specs.Lengths.{IsConfirmed, IsDigested, IsShownLength, IsStripeLength};
+ghost use Rattle.store_repair.specs.declared.lengths.Evidence.TheVariants.{Checks as ByChecks, Digest as ByDigest};
 ghost use Rattle.store_repair.specs.Scrubbed.{said_damaged};
 ghost use Rattle.stores.specs.Stripes.{has_file};
 
@@ -14,7 +17,7 @@ use crate::losses::are_checked;
 use crate::mending::{MendFault, Survivors};
 use crate::opening::open_survivors;
 use crate::outcomes::{Finding, Reason, note, note_no_survivor};
-use lrc_code::{Code, Place};
+use lrc_code::{Code, Place, PlaceSet};
 use std::alloc::{AllocError, Global};
 use stores::{Found, Store, Stripe, StripeFiles, is_in_common, nth_place};
 
@@ -25,21 +28,34 @@ pub enum StripeLength {
     NoFiles,
     /// So many.
     Known(usize),
-    /// The files have several lengths, and checks confirm none of these, or more than one, or one that isn't the greatest.
+    /// The files have several lengths, and digests show more than one of these, or none while checks show none, or more than one, or one
+    /// that isn't the greatest.
     Undecided(Lengths),
 }
 
-/// How many bytes each fragment of a stripe has: as many as each of its files, if these have one length, and else the length whose
-/// fragments have checks and belong together, if there is only one and no file is longer: the beginnings of a stripe's fragments are those
-/// of a stripe too. Fragments without bytes prove nothing. Fragments are read only where the lengths differ. No clause says that a length
-/// is known where they do, or that checks confirm no other.
+/// What shows how many bytes a stripe's fragments have.
+#[derive(Clone, Copy)]
+enum Evidence {
+    Nothing,
+    /// Fragments of the length have bytes and checks, and belong together.
+    Checks,
+    /// One of them has the digest that the store knows of it, which is that of all its bytes.
+    Digest,
+}
+
+/// How many bytes each fragment of a stripe has: as many as each of its files, if these have one length; else as many as a file that has
+/// the digest that the store knows of it, if all such files have one length; and if there are none, the length whose fragments have checks
+/// and belong together, if there is only one and no file is longer: the beginnings of a stripe's fragments are those of a stripe too.
+/// Without a digest fragments without bytes prove nothing. Fragments are read only where the lengths differ. No clause says that a length
+/// is known where they do, that a file has its digest (see [`Store::refused`]), or that checks confirm no other.
 pub fn stripe_length<S: Store>(
     alloc: Global,
     store: &S,
     code: Code,
     stripe: &Stripe<'_>,
 ) -> Result<StripeLength, AllocError>
-    ensures is { IfOk result (IsStripeLength code stripe.now.files.found stripe.now.name.now (S.files store.now)) }
+    ensures is { IfOk result (IsStripeLength code stripe.now.files.found stripe.now.name.now (S.files store.now)
+        (S.listed store.now)) }
     ensures several { IfOk result (IfNotKnown (HaveNoCommonLength code stripe.now.files.found)) }
 {
     if let Some(length) = common_length(code, &stripe.files) {
@@ -49,9 +65,9 @@ pub fn stripe_length<S: Store>(
     if lengths.groups.is_empty() {
         return Ok(StripeLength::NoFiles);
     }
-    match confirmed_length(alloc, store, code, stripe, lengths.groups.as_slice())? {
-        Some(length) if lengths.are_at_most(length) => Ok(StripeLength::Known(length)),
-        _ => Ok(StripeLength::Undecided(lengths)),
+    match shown_length(alloc, store, code, stripe, &lengths)? {
+        Some(length) => Ok(StripeLength::Known(length)),
+        None => Ok(StripeLength::Undecided(lengths)),
     }
 }
 
@@ -137,45 +153,66 @@ fn lengths_of(alloc: Global, code: Code, files: &StripeFiles) -> Result<Lengths,
     Ok(Lengths { groups })
 }
 
-/// The only one of several lengths whose fragments have checks and belong together.
-fn confirmed_length<S: Store>(
+/// The length that digests show, if they show one; if they show none, the only one that checks show, if no file is longer.
+fn shown_length<S: Store>(
     alloc: Global,
     store: &S,
     code: Code,
     stripe: &Stripe<'_>,
-    groups: &[LengthGroup],
+    lengths: &Lengths,
 ) -> Result<Option<usize>, AllocError>
-    ensures { IfOk result (λ o. IfSome o (λ len. IfSome (S.files store.now) (IsConfirmed code len stripe.now.name.now))) }
+    ensures { IfOk result (λ o. IfSome o (IsShownLength code stripe.now.files.found stripe.now.name.now (S.files store.now)
+        (S.listed store.now))) }
 {
-    let mut confirmed = None;
-    for group in groups {
+    let mut by_digest = None;
+    let mut by_checks = None;
+    let mut are_several = false;
+    for group in &lengths.groups {
         let Ok(length) = usize::try_from(group.length) else {
             return Ok(None);
         };
-        if is_confirmed(alloc, store, code, stripe, length)? {
-            if confirmed.is_some() {
-                return Ok(None);
+        match evidence_of(alloc, store, code, stripe, length)? {
+            Evidence::Digest => {
+                if by_digest.is_some() {
+                    return Ok(None);
+                }
+                by_digest = Some(length);
             }
-            confirmed = Some(length);
+            Evidence::Checks => {
+                are_several = are_several || by_checks.is_some();
+                by_checks = Some(length);
+            }
+            Evidence::Nothing => {}
         }
     }
-    Ok(confirmed)
+    if by_digest.is_some() {
+        return Ok(by_digest);
+    }
+    match by_checks {
+        Some(length) if !are_several && lengths.are_at_most(length) => Ok(by_checks),
+        _ => Ok(None),
+    }
 }
 
-/// Whether a stripe's fragments of a length have bytes and checks, and belong together.
-fn is_confirmed<S: Store>(
+/// What shows that a stripe's fragments have a length. Where a digest does, they aren't held to each other.
+fn evidence_of<S: Store>(
     alloc: Global,
     store: &S,
     code: Code,
     stripe: &Stripe<'_>,
     length: usize,
-) -> Result<bool, AllocError>
-    ensures { IfOk result (λ b. b ≡ true → IfSome (S.files store.now) (IsConfirmed code length stripe.now.name.now)) }
+) -> Result<Evidence, AllocError>
+    ensures checks { IfOk result (λ it. it ≡ ByChecks → IfSome (S.files store.now) (IsConfirmed code length stripe.now.name.now)) }
+    ensures digest { IfOk result (λ it. it ≡ ByDigest → IsDigested code stripe.now.files.found stripe.now.name.now (S.listed store.now)
+        length) }
 {
     let mut noted_later = Vec::new(alloc);
     let opened = open_survivors(alloc, store, code, stripe, length, &mut noted_later)?;
+    if has_digest(store, stripe, opened.set)? {
+        return Ok(Evidence::Digest);
+    }
     if !are_checked(code, opened.set, length) {
-        return Ok(false);
+        return Ok(Evidence::Nothing);
     }
     let survivors = Survivors {
         code,
@@ -184,8 +221,25 @@ fn is_confirmed<S: Store>(
         fragments: opened.fragments.as_slice(),
     };
     match are_consistent(alloc, &survivors) {
-        Ok(belong_together) => Ok(belong_together),
+        Ok(true) => Ok(Evidence::Checks),
         Err(MendFault::OutOfMemory) => Err(AllocError),
-        Err(_) => Ok(false),
+        _ => Ok(Evidence::Nothing),
     }
+}
+
+/// Whether the store knows a digest of a stripe's fragment at one of these places.
+fn has_digest<S: Store>(
+    store: &S,
+    stripe: &Stripe<'_>,
+    places: PlaceSet,
+) -> Result<bool, AllocError>
+    ensures { IfOk result (λ has. has ≡ true → (p : Place) × (is_in places p ≡ true) × S.listed store.now stripe.now.name.now p) }
+{
+    for index in 0..16 {
+        let place = nth_place(index);
+        if places.has(place) && store.is_listed(stripe.name, place)? {
+            return Ok(true);
+        }
+    }
+    Ok(false)
 }

@@ -4,10 +4,10 @@ use Rattle.store_repair.specs.Mended.{IsConsistency}
 use Rattle.stores.specs.Shown.{AreShown}
 use Rattle.store_repair.proofs.LengthLemmas.{confirmed}
 use Rattle.store_repair.proofs.ScrubLemmas.{of_one_stripe}
-use Rattle.store_repair.proofs.lengths.is_confirmed.Goals as goal
+use Rattle.store_repair.proofs.lengths.evidence_of.Goals as goal
 
-pub returns-in-Ok : goal.returns-in-Ok
-returns-in-Ok g c = λ on.
+pub returns-in-Ok-true-clause-checks : goal.returns-in-Ok-true-clause-checks
+returns-in-Ok-true-clause-checks g c = λ _.
     let shown = g.S.Survivor.Fragment.shown in
     let code = c.args.code in
     let stripe = c.args.stripe.now.name.now in
@@ -17,5 +17,5 @@ returns-in-Ok g c = λ on.
     let sixteen : length opened.fragments.items ≡ 16 = omega (arith, c.in_ok-opened.ensures.sixteen) in
     confirmed code len stripe opened.set files (c.are_checked.ensures c.if-not-are_checked.false)
     (of_one_stripe shown code stripe len opened.set opened.fragments.items sixteen files c.in_ok-opened.ensures.opened
-    (λ xs are whole. subst (IsConsistency code (is_in opened.set) xs len) on
-    (c.in-Ok.ensures xs (subst (λ fs. AreShown shown fs xs) (sym c.as_slice.ensures.value) are) whole)))
+    (λ xs are whole. subst (IsConsistency code (is_in opened.set) xs len) c.in-Ok-true.field-0-test
+    (c.in-Ok-true.ensures xs (subst (λ fs. AreShown shown fs xs) (sym c.as_slice.ensures.value) are) whole)))
