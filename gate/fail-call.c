@@ -3,7 +3,8 @@
  * FAIL_NUMBER=N is the Nth such call, from 1, and FAIL_HOW what becomes of it: the number of an error that it answers; `kill`, which ends
  * the program by SIGKILL; `short`, so that a read or a write takes half of its bytes; or `meanwhile`, so that a file of one byte, which
  * another program might have made, is under the name that a link is about to give. With `unsynced` no sync is made, and each answers that
- * it was; with `wait` the program makes the file FAIL_REACHED and goes on when FAIL_UNTIL is there, so that others come between.
+ * it was; with `wait` the program makes the file FAIL_REACHED and goes on when FAIL_UNTIL is there, so that others come between. With
+ * `slow` each read takes FAIL_NUMBER milliseconds more, as one from a slow disk, and no call fails.
  * FAIL_REST=kind has all later calls of its kind answer that error too, and FAIL_REST=path those of them at its path. Counting begins with
  * `main`. The file FAIL_RECORD gets what `struct record` has; it is mapped, so it is right however the program ends. */
 #define _GNU_SOURCE
@@ -34,7 +35,7 @@ struct record {
     char path[MOST_PATH];
 };
 
-enum how { ERROR, KILL, SHORT, MEANWHILE, UNSYNCED, WAIT };
+enum how { ERROR, KILL, SHORT, MEANWHILE, UNSYNCED, WAIT, SLOW };
 
 static struct record unmapped;
 static struct record *record = &unmapped;
@@ -65,6 +66,11 @@ static int is_chosen(const char *kind, const char *path, const char *other)
 {
     if (atomic_load(&record->counts) == 0)
         return 0;
+    if (how == SLOW) {
+        if (strcmp(kind, "read") == 0)
+            usleep((useconds_t)(number * 1000));
+        return 0;
+    }
     uint64_t own = atomic_fetch_add(&record->calls, 1) + 1;
     if (own <= MOST_CALLS)
         memcpy(record->kinds[own - 1], kind, strnlen(kind, MOST_KIND));
@@ -310,6 +316,8 @@ static void read_how(const char *text)
         how = UNSYNCED;
     else if (strcmp(text, "wait") == 0)
         how = WAIT;
+    else if (strcmp(text, "slow") == 0)
+        how = SLOW;
     else
         error_number = atoi(text);
 }

@@ -1722,13 +1722,22 @@ def test_file_that_changes_while_it_is_read(place, choose):
         hold(status == 3 and "changed meanwhile" in said[-200:], f"status {status}: {said[-200:]!r}")
 
 
-def on_terminal(*words, killed=False):
-    """What the program writes to a terminal on its standard error, and its status. It may be killed once it has shown a line."""
+def slow_reads(place, milliseconds):
+    """The variables with which each read of a run takes so much longer, as from a slow disk, so that work on small files shows lines."""
+    calls, record = Calls(place), place / "record"
+    record.write_bytes(bytes(RECORD.size))
+    return {"LD_PRELOAD": str(calls.file), "FAIL_RECORD": str(record), "FAIL_NUMBER": str(milliseconds), "FAIL_HOW": "slow"}
+
+
+def on_terminal(*words, slow, killed=False):
+    """What the program writes to a terminal on its standard error, with these variables, and its status. It may be killed once it has shown
+    a line."""
     try:
         ours, theirs = pty.openpty()
     except OSError as error:
         raise Skipped(f"no terminal can be made here: {error}") from None
-    with subprocess.Popen([PROGRAM, *map(str, words)], stdin=subprocess.DEVNULL, stdout=subprocess.DEVNULL, stderr=theirs) as process:
+    command, quiet = [PROGRAM, *map(str, words)], subprocess.DEVNULL
+    with subprocess.Popen(command, stdin=quiet, stdout=quiet, stderr=theirs, env={**os.environ, **slow}) as process:
         os.close(theirs)
         said = b""
         # A terminal that nobody writes to any more can't be read.
@@ -1745,62 +1754,64 @@ def test_line_on_a_terminal(place, choose):
     """A repair and a scrub show how far they are on a line that is written anew in its place, and that ends if the run is killed."""
     store = place / "zeros"
     store.mkdir()
-    names, size = [f"s{number}" for number in range(80)], 4 * 2**20
+    names, size, slow = [f"s{number}" for number in range(80)], 2**17, slow_reads(place, 3)
     for name in names:
         for shard in ("x0", "x1", "x2", "y0", "y1", "y2", "px", "py", "p0", "p1"):
             # Zeros are a stripe, and those of a sparse file take no room.
             with open(store / f"{name}.{shard}", "wb") as file:
                 file.truncate(size)
     line = r"(?:\x1b\[A)?\r\x1b\[K\x1b\[\?7l%s: \d+/%d %s  [\d.]+/%s MiB  \d+ MiB/s  \d+:\d\d left  0 damaged, 0 %s\x1b\[\?7h\r\n"
-    scrub = line % ("scrub", len(names), "stripes", re.escape(f"{len(names) * 40}.0"), "lost")
-    said, status = on_terminal("scrub", store, "--workers", 1)
+    scrub = line % ("scrub", len(names), "stripes", re.escape("100.0"), "lost")
+    said, status = on_terminal("scrub", store, "--workers", 1, slow=slow)
     hold(status == 0 and re.fullmatch(f"(?:{scrub})+\x1b\\[A\r\x1b\\[K", said), f"status {status}: {said!r}")
-    said, status = on_terminal("scrub", store, "--workers", 1, killed=True)
+    said, status = on_terminal("scrub", store, "--workers", 1, slow=slow, killed=True)
     hold(status == -signal.SIGTERM and re.fullmatch(f"(?:{scrub})+", said), f"status {status}: {said!r}")
     for name in names:
         (store / f"{name}.px").unlink()
-    repair = line % ("repair", len(names), "fragments", re.escape(f"{len(names) * 36}.0"), "given up")
-    said, status = on_terminal("repair", store, "--reads", "all", "--workers", 1)
+    repair = line % ("repair", len(names), "fragments", re.escape("90.0"), "given up")
+    said, status = on_terminal("repair", store, "--reads", "all", "--workers", 1, slow=slow)
     hold(status == 0 and re.fullmatch(f"(?:{repair})+\x1b\\[A\r\x1b\\[K", said), f"status {status}: {said!r}")
 
 
 def test_line_of_files(place, choose):
     """An encoding shows how many files are done; with -q there is no line."""
-    store, sources, size = place / "files", [place / f"f{number}" for number in range(4)], 100 * 2**20
+    store, sources, size = place / "files", [place / f"f{number}" for number in range(4)], 2**20
+    slow = slow_reads(place, 40)
     store.mkdir()
     for source in sources:
         with open(source, "wb") as file:
             file.truncate(size)
-    line = r"(?:\x1b\[A)?\r\x1b\[K\x1b\[\?7lencode: \d/4 files  [\d.]+/400.0 MiB  \d+ MiB/s  \d+:\d\d left\x1b\[\?7h\r\n"
-    said, status = on_terminal("encode", store, *sources)
+    line = r"(?:\x1b\[A)?\r\x1b\[K\x1b\[\?7lencode: \d/4 files  [\d.]+/4.0 MiB  \d+ MiB/s  \d+:\d\d left\x1b\[\?7h\r\n"
+    said, status = on_terminal("encode", store, *sources, slow=slow)
     hold(status == 0 and re.fullmatch(f"(?:{line})+\x1b\\[A\r\x1b\\[K", said), f"status {status}: {said!r}")
     for command, words in (("encode", sources), ("scrub", []), ("verify", []), ("read", ["f0", "-o", place / "read"])):
-        hold(on_terminal(command, store, *words, "-q") == ("", 0), f"{command} -q shows a line")
+        hold(on_terminal(command, store, *words, "-q", slow=slow) == ("", 0), f"{command} -q shows a line")
 
 
 def test_line_within_a_file(place, choose):
     """A command over one long file shows how far it is in it, and no line that it says is written over."""
-    store, file, size = place / "long", place / "f", 300 * 2**20
+    store, file, size, slow = place / "long", place / "f", 8 * 2**20, slow_reads(place, 20)
     with open(file, "wb") as long:
         long.truncate(size)
     line = r"(?:\x1b\[A)?\r\x1b\[K\x1b\[\?7l%s: 0/1 %s  ([\d.]+)/%s MiB  \d+ MiB/s  \d+:\d\d left[^\n]*\x1b\[\?7h\r\n"
     took = "\x1b[A\r\x1b[K"
-    commands = [("encode", "files", "300.0", [store, file]), ("verify", "files", "300.0", [store]),
-                ("read", "files", "300.0", [store, "f", "-o", place / "read"])]
+    commands = [("encode", "files", "8.0", [store, file]), ("verify", "files", "8.0", [store]),
+                ("read", "files", "8.0", [store, "f", "-o", place / "read"])]
     for command, unit, all_of_it, words in commands:
-        said, status = on_terminal(command, *words)
+        said, status = on_terminal(command, *words, slow=slow)
         seen = [float(it) for it in re.findall(line % (command, unit, re.escape(all_of_it)), said)]
         hold(status == 0 and len(seen) > 1 and seen == sorted(seen) and min(seen) < max(seen), f"{command}: {status}, {said!r}")
         hold(said.endswith(took), f"{command} left its line: {said!r}")
     hold((place / "read").stat().st_size == size, "the file isn't what it was")
-    said, status = on_terminal("encode", store, "--replace", file, place / "nothere", file)
+    said, status = on_terminal("encode", store, "--replace", file, place / "nothere", file, slow=slow)
     refused = r"\x1b\[A\r\x1b\[Krebuild-store: \S+nothere: No such file or directory\r\n(?!\x1b\[A)"
     hold(status == 3 and re.search(refused, said), repr(said))
 
 
 def test_line_within_a_stripe(place, choose):
     """A repair and a scrub of one long stripe show how far they are in it, also where its fragments are held to digests."""
-    bare, store, file, size = place / "bare", place / "store", place / "f", 300 * 2**20
+    bare, store, file, size = place / "bare", place / "store", place / "f", 6 * 2**20
+    slow = slow_reads(place, 6)
     bare.mkdir()
     for shard in ("x0", "x1", "x2", "y0", "y1", "y2", "px", "py", "p0", "p1"):
         # Zeros are a stripe, and those of a sparse file take no room.
@@ -1811,12 +1822,13 @@ def test_line_within_a_stripe(place, choose):
     run("encode", store, file, status=0)
     line = r"(?:\x1b\[A)?\r\x1b\[K\x1b\[\?7l%s: 0/1 %s  ([\d.]+)/%s MiB  \d+ MiB/s  \d+:\d\d left  0 damaged, 0 %s\x1b\[\?7h\r\n"
     commands = [("scrub", "stripes", 10, "lost"), ("repair", "fragments", 9, "given up")]
-    for fragment, mebibytes in ((bare / "s.px", 300), (store / "f.px", 100)):
+    for fragment, mebibytes in ((bare / "s.px", 6), (store / "f.px", 2)):
         for command, unit, many, others in commands:
             if command == "repair":
                 fragment.unlink()
             all_of_it = many * mebibytes
-            said, status = on_terminal(command, fragment.parent, *(["--reads", "all"] if command == "repair" else []))
+            words = ["--reads", "all"] if command == "repair" else []
+            said, status = on_terminal(command, fragment.parent, *words, slow=slow)
             seen = [float(it) for it in re.findall(line % (command, unit, rf"{all_of_it}\.0", others), said)]
             hold(status == 0 and len({it for it in seen if 0 < it < all_of_it}) > 1 and seen == sorted(seen),
                  f"{command} {fragment.name}: status {status}, {said!r}")
