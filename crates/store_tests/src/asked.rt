@@ -1,7 +1,9 @@
 //! What arguments ask for, option by option, as the manual page says it.
+use crate::asserting::assert_holds;
 use crate::words::words_of;
 use lrc_code::{Code, Place};
-use std::alloc::{AllocError, Global};
+use std::alloc::Global;
+use std::process::Abort;
 use store_arguments::{
     Command, EncodeOptions, RepairOptions, StoreOptions, TestOptions, read_arguments,
 };
@@ -38,38 +40,72 @@ fn is_test_as_asked(test: &TestOptions<'_>) -> bool {
 }
 
 /// Whether the names are in the layout of groups, in which px is number 6 of the wide code.
-fn is_in_groups(alloc: Global, store: &StoreOptions<'_>) -> Result<bool, AllocError> {
-    let name = store
-        .naming
-        .pattern
-        .name_of(alloc, Code::Wide, "n", Place::Px)?;
-    Ok(matches!(&name, Some(name) if name.as_str() == "d6/n"))
+fn are_in_groups(alloc: Global, store: &StoreOptions<'_>) -> bool {
+    let pattern = &store.naming.pattern;
+    let name = pattern.name_of(alloc, Code::Wide, "n", Place::Px);
+    matches!(&name, Ok(Some(name)) if name.as_str() == "d6/n")
 }
 
 /// Whether all options of a repair are as in these lines.
-fn is_repair_as_asked(alloc: Global, options: &RepairOptions<'_>) -> Result<bool, AllocError> {
-    Ok(
-        is_store_as_asked(&options.store)
-            && is_test_as_asked(&options.test)
-            && options.reads == Reads::Few
-            && options.to == Some("new")
-            && flags_of(options) == [true; 6]
-            && is_in_groups(alloc, &options.store)?,
-    )
+fn is_repair_as_asked(alloc: Global, options: &RepairOptions<'_>) -> bool {
+    is_store_as_asked(&options.store)
+        && is_test_as_asked(&options.test)
+        && options.reads == Reads::Few
+        && options.to == Some("new")
+        && flags_of(options) == [true; 6]
+        && are_in_groups(alloc, &options.store)
 }
 
-/// Whether a line asks for that repair.
-fn asks_for_all(alloc: Global, line: &str) -> Result<bool, AllocError> {
-    match read_arguments(alloc, words_of(alloc, line)?.as_slice()) {
-        Ok(Command::Repair(options)) => is_repair_as_asked(alloc, &options),
-        _ => Ok(false),
+/// What a line asks for.
+#[derive(Clone, Copy)]
+enum Wanted<'w> {
+    /// A repair with all options.
+    AllOfRepair,
+    /// Work on files, with options.
+    OfFiles,
+    /// Work without an option.
+    Plain,
+    /// A repair that reads these survivors.
+    Reads(Reads),
+    /// A scrub of so many bytes a second.
+    Rate(u64),
+    /// A text that begins so.
+    Shown(&'w str),
+}
+
+/// Whether a command is what is wanted.
+fn is_wanted(alloc: Global, command: &Command<'_>, wanted: &Wanted<'_>) -> bool {
+    match wanted {
+        Wanted::AllOfRepair => match command {
+            Command::Repair(options) => is_repair_as_asked(alloc, options),
+            _ => false,
+        },
+        Wanted::OfFiles => is_of_files(command),
+        Wanted::Plain => is_plain(command),
+        Wanted::Reads(reads) => {
+            matches!(command, Command::Repair(options) if options.reads == *reads)
+        }
+        Wanted::Rate(rate) => {
+            matches!(command, Command::Scrub(options) if options.test.rate == Some(*rate))
+        }
+        Wanted::Shown(text) => matches!(command, Command::Help(shown) if shown.starts_with(text)),
     }
+}
+
+/// Asserts that a line asks for what is wanted.
+fn assert_asks(rt: &impl Abort, alloc: Global, line: &str, wanted: Wanted<'_>) {
+    let words = words_of(rt, alloc, line);
+    let is = match read_arguments(alloc, words.as_slice()) {
+        Ok(command) => is_wanted(alloc, &command, &wanted),
+        Err(_) => false,
+    };
+    assert_holds(rt, is, line);
 }
 
 #[test]
 fn all_options_of_a_repair(rt: HostRuntime) {
     for line in REPAIRS {
-        assert!(&rt; asks_for_all(rt.alloc(), line) == Ok(true), "{line}");
+        assert_asks(&rt, rt.alloc(), line, Wanted::AllOfRepair);
     }
 }
 
@@ -98,10 +134,7 @@ const READS: [(&str, Reads); 6] = [
 #[test]
 fn survivors_that_are_read(rt: HostRuntime) {
     for (line, reads) in READS {
-        let is_so = |command: &Command<'_>| {
-            matches!(command, Command::Repair(options) if options.reads == reads)
-        };
-        assert!(&rt; asks(rt.alloc(), line, is_so) == Ok(true), "{line}");
+        assert_asks(&rt, rt.alloc(), line, Wanted::Reads(reads));
     }
 }
 
@@ -154,24 +187,10 @@ fn are_both(names: &[&str]) -> bool {
     names == ["a", "b"].as_slice()
 }
 
-/// Whether what a line asks for is so.
-fn asks<F: Fn(&Command<'_>) -> bool>(
-    alloc: Global,
-    line: &str,
-    is_right: F,
-) -> Result<bool, AllocError>
-    requires { F.IsAlwaysCallable is_right }
-{
-    match read_arguments(alloc, words_of(alloc, line)?.as_slice()) {
-        Ok(command) => Ok(is_right(&command)),
-        Err(_) => Ok(false),
-    }
-}
-
 #[test]
 fn options_of_files(rt: HostRuntime) {
     for line in OF_FILES {
-        assert!(&rt; asks(rt.alloc(), line, is_of_files) == Ok(true), "{line}");
+        assert_asks(&rt, rt.alloc(), line, Wanted::OfFiles);
     }
 }
 
@@ -217,25 +236,17 @@ const RATES: [(&str, u64); 5] = [
     ("scrub --rate 18446744073709551615 s", u64::MAX),
 ];
 
-/// Whether a line asks for this rate.
-fn is_rate(alloc: Global, line: &str, rate: u64) -> Result<bool, AllocError> {
-    match read_arguments(alloc, words_of(alloc, line)?.as_slice()) {
-        Ok(Command::Scrub(options)) => Ok(options.test.rate == Some(rate)),
-        _ => Ok(false),
-    }
-}
-
 #[test]
 fn rates_are_bytes_a_second(rt: HostRuntime) {
     for (line, rate) in RATES {
-        assert!(&rt; is_rate(rt.alloc(), line, rate) == Ok(true), "{line}");
+        assert_asks(&rt, rt.alloc(), line, Wanted::Rate(rate));
     }
 }
 
 #[test]
 fn what_holds_without_options(rt: HostRuntime) {
     for line in ["repair s", "scrub s", "lost s", "encode s a b", "read s n"] {
-        assert!(&rt; asks(rt.alloc(), line, is_plain) == Ok(true), "{line}");
+        assert_asks(&rt, rt.alloc(), line, Wanted::Plain);
     }
 }
 
@@ -273,17 +284,9 @@ const SHOWN: [(&str, &str); 3] = [
     ),
 ];
 
-/// Whether a line has a text shown that begins so.
-fn shows(alloc: Global, line: &str, text: &str) -> Result<bool, AllocError> {
-    match read_arguments(alloc, words_of(alloc, line)?.as_slice()) {
-        Ok(Command::Help(shown)) => Ok(shown.starts_with(text)),
-        _ => Ok(false),
-    }
-}
-
 #[test]
 fn help_and_version_are_shown(rt: HostRuntime) {
     for (line, text) in SHOWN {
-        assert!(&rt; shows(rt.alloc(), line, text) == Ok(true), "{line}");
+        assert_asks(&rt, rt.alloc(), line, Wanted::Shown(text));
     }
 }

@@ -1,8 +1,7 @@
 //! Which copy of a description is believed.
 use crate::asserting::{assert_holds, assert_text};
 use lrc_code::Code;
-use std::alloc::{AllocError, Global};
-use std::io;
+use std::alloc::Global;
 use std::process::Abort;
 use store_faults::{Copies, CopyFinding, CopyState, FoundCopy};
 use store_folder::Described;
@@ -28,18 +27,29 @@ fn is_believed(copies: &Copies, length: Option<u64>) -> bool {
     }
 }
 
-/// Asserts that all of so many findings of a stripe have this line.
-fn assert_findings(
-    rt: &impl Abort,
-    alloc: Global,
-    findings: &[CopyFinding],
-    line: &str,
-) -> Result<(), AllocError> {
+/// Asserts that all of these findings of a stripe have this line.
+fn assert_findings(rt: &impl Abort, alloc: Global, findings: &[CopyFinding], line: &str) {
     for finding in findings {
         let reason = &finding.reason;
-        assert_text(rt, format!(in alloc; "{reason}")?.as_str(), line);
+        let text = format!(in alloc; "{reason}").expect(rt, "a text");
+        assert_text(rt, text.as_str(), line);
     }
-    Ok(())
+}
+
+/// Asserts how many findings of a stripe of a code there are, each with this line.
+fn assert_found(
+    rt: &impl Abort,
+    alloc: Global,
+    copies: &Copies,
+    code: Code,
+    count: usize,
+    line: &str,
+) {
+    let findings = copies
+        .stripe_findings(alloc, code, "note")
+        .expect(rt, "findings");
+    assert_holds(rt, findings.len() == count, line);
+    assert_findings(rt, alloc, findings.as_slice(), line);
 }
 
 /// Asserts of copies which is believed, and what is found.
@@ -47,12 +57,11 @@ fn assert_believed(
     rt: &impl Abort,
     alloc: Global,
     (said, listed, believed, is_undecided): (&str, Option<u8>, Option<u64>, bool),
-) -> Result<(), AllocError> {
-    let copies = copies_of(alloc, said, listed)?;
+) {
+    let copies = copies_of(rt, alloc, said, listed);
     assert_holds(rt, is_believed(&copies, believed), said);
-    let findings = copies.stripe_findings(alloc, Code::Narrow, "note")?;
-    assert_holds(rt, findings.len() == usize::from(is_undecided), said);
-    assert_findings(rt, alloc, findings.as_slice(), DIFFER)
+    let count = usize::from(is_undecided);
+    assert_found(rt, alloc, &copies, Code::Narrow, count, DIFFER);
 }
 
 const DIFFER: &str = "its descriptions differ, and nothing says which is right";
@@ -60,15 +69,13 @@ const DIFFER: &str = "its descriptions differ, and nothing says which is right";
 const OTHER_CODE: &str = "contradiction: its description says that it is of the code 6-2-2";
 
 #[test]
-fn most_copies_or_the_sums_are_believed(rt: HostRuntime) -> io::Result<()> {
+fn most_copies_or_the_sums_are_believed(rt: HostRuntime) {
     for copies in COPIES {
-        assert_believed(&rt, rt.alloc(), copies)?;
+        assert_believed(&rt, rt.alloc(), copies);
     }
     // The code of a description that is believed is the stripe's.
-    let copies = copies_of(rt.alloc(), "11", None)?;
-    let findings = copies.stripe_findings(rt.alloc(), Code::Wide, "note")?;
-    assert_findings(&rt, rt.alloc(), findings.as_slice(), OTHER_CODE)?;
-    Ok(())
+    let copies = copies_of(&rt, rt.alloc(), "11", None);
+    assert_found(&rt, rt.alloc(), &copies, Code::Wide, 1, OTHER_CODE);
 }
 
 /// What a copy says, by its letter.
@@ -86,17 +93,23 @@ fn state_of(letter: char) -> CopyState {
     }
 }
 
-fn copies_of(alloc: Global, said: &str, listed: Option<u8>) -> Result<Copies, AllocError> {
+/// A copy that says this.
+fn copy_of(rt: &impl Abort, alloc: Global, letter: char) -> FoundCopy {
+    FoundCopy {
+        name: String::from_str(alloc, "note.file").expect(rt, "a name"),
+        state: state_of(letter),
+        is_wanted: true,
+    }
+}
+
+fn copies_of(rt: &impl Abort, alloc: Global, said: &str, listed: Option<u8>) -> Copies {
     let mut all = Vec::new(alloc);
     for letter in said.chars() {
-        all.push(FoundCopy {
-            name: String::from_str(alloc, "note.file")?,
-            state: state_of(letter),
-            is_wanted: true,
-        })?;
+        all.push(copy_of(rt, alloc, letter))
+            .expect(rt, "room for a copy");
     }
-    Ok(Copies {
+    Copies {
         all,
         listed: listed.map(|digit| [digit; 32]),
-    })
+    }
 }

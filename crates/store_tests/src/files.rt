@@ -1,7 +1,8 @@
 //! The lines that say which files are in a store.
 use crate::asserting::assert_text;
 use lrc_code::Code;
-use std::io;
+use std::alloc::{AllocError, Global};
+use std::process::Abort;
 use store_reports::{FileState, ListedFile, Rows, file_line, files_listed, removed, verified};
 
 /// A file, its line and its object.
@@ -41,22 +42,27 @@ const FILES: [(ListedFile<'static>, &str, &str); 3] = [
     ),
 ];
 
+/// Asserts that a text could be made and is the one that is wanted.
+fn assert_made(rt: &impl Abort, made: Result<String, AllocError>, wanted: &str) {
+    let text = made.expect(rt, "a text");
+    assert_text(rt, text.as_str(), wanted);
+}
+
+/// Asserts the line and the object of a file.
+fn assert_listed(rt: &impl Abort, alloc: Global, file: &ListedFile<'_>, line: &str, object: &str) {
+    assert_made(rt, file_line(alloc, file, Rows::Csv), line);
+    assert_made(rt, file_line(alloc, file, Rows::Json), object);
+}
+
 #[test]
-fn files_are_listed(rt: HostRuntime) -> io::Result<()> {
+fn files_are_listed(rt: HostRuntime) {
     let alloc = rt.alloc();
     for (file, line, object) in FILES {
-        assert_text(&rt, file_line(alloc, &file, Rows::Csv)?.as_str(), line);
-        assert_text(&rt, file_line(alloc, &file, Rows::Json)?.as_str(), object);
+        assert_listed(&rt, alloc, &file, line, object);
     }
-    let listed = files_listed(alloc, 1, 0)?;
-    assert_text(&rt, listed.as_str(), "1 file; not whole: 0");
-    let verified = verified(alloc, 2, 1)?;
-    assert_text(
-        &rt,
-        verified.as_str(),
-        "verified 2 files; not as described: 1",
-    );
-    let removed = removed(alloc, 0, 3)?;
-    assert_text(&rt, removed.as_str(), "removed 0 files; not removed: 3");
-    Ok(())
+    let (listed, verified) = (files_listed(alloc, 1, 0), verified(alloc, 2, 1));
+    assert_made(&rt, listed, "1 file; not whole: 0");
+    assert_made(&rt, verified, "verified 2 files; not as described: 1");
+    let removed = removed(alloc, 0, 3);
+    assert_made(&rt, removed, "removed 0 files; not removed: 3");
 }

@@ -19,12 +19,17 @@ const ESCAPES: [(&str, &str); 7] = [
     ("größe €", "größe €"),
 ];
 
+/// Asserts that a text could be made, and is this front and then these words.
+fn assert_made(rt: &impl Abort, made: Result<String, AllocError>, front: &str, words: &str) {
+    let text = made.expect(rt, "a text");
+    assert_ends(rt, text.as_str(), front, words);
+}
+
 #[test]
-fn control_characters_are_escaped(rt: HostRuntime) -> io::Result<()> {
+fn control_characters_are_escaped(rt: HostRuntime) {
     for (text, line) in ESCAPES {
-        assert_text(&rt, escaped(rt.alloc(), text)?.as_str(), line);
+        assert_made(&rt, escaped(rt.alloc(), text), "", line);
     }
-    Ok(())
 }
 
 /// Numbers of errors, and what strerror of the C library says of them.
@@ -47,37 +52,34 @@ fn unread_text(alloc: Global, error: io::Error) -> Result<String, AllocError> {
 }
 
 /// Asserts what is said of a device's fault with this number, and its status.
-fn assert_device(
-    rt: &impl Abort,
-    alloc: Global,
-    number: i32,
-    words: &str,
-) -> Result<(), AllocError> {
+fn assert_device(rt: &impl Abort, alloc: Global, number: i32, words: &str) {
     let fault = device(alloc, "b", io::Error::from_raw_os_error(number));
-    assert_ends(rt, format!(in alloc; "{fault}")?.as_str(), "b: ", words);
+    assert_made(rt, format!(in alloc; "{fault}"), "b: ", words);
     assert_holds(rt, fault.status() == DEVICE, words);
-    Ok(())
 }
 
 /// Asserts that an error of this number is said in these words alone, of a copy too.
-fn assert_said(rt: &impl Abort, alloc: Global, number: i32, words: &str) -> Result<(), AllocError> {
+fn assert_said(rt: &impl Abort, alloc: Global, number: i32, words: &str) {
     let error = io::Error::from_raw_os_error(number);
-    assert_text(rt, words_of(alloc, &error)?.as_str(), words);
-    let text = unread_text(alloc, error)?;
-    assert_ends(rt, text.as_str(), "a (os error 2): can't be read: ", words);
-    assert_device(rt, alloc, number, words)
+    assert_made(rt, words_of(alloc, &error), "", words);
+    assert_made(
+        rt,
+        unread_text(alloc, error),
+        "a (os error 2): can't be read: ",
+        words,
+    );
+    assert_device(rt, alloc, number, words);
 }
 
 #[test]
-fn errors_are_said_without_their_numbers(rt: HostRuntime) -> Result<(), AllocError> {
+fn errors_are_said_without_their_numbers(rt: HostRuntime) {
     for (number, words) in ERRORS {
-        assert_said(&rt, rt.alloc(), number, words)?;
+        assert_said(&rt, rt.alloc(), number, words);
     }
     for words in ["is a link", "(os error 2) odd", "odd (os error x)", ")"] {
-        let said = words_of(rt.alloc(), &io::Error::other(words))?;
-        assert_text(&rt, said.as_str(), words);
+        let said = words_of(rt.alloc(), &io::Error::other(words));
+        assert_made(&rt, said, "", words);
     }
-    Ok(())
 }
 
 /// A stripe's name, the length of its fragments in bytes, and the request for its y0 in a list, where x2 and y0 are lost.

@@ -1,6 +1,6 @@
 //! Arguments that are refused, each with the whole text that is said.
 use crate::words::words_of;
-use std::alloc::{AllocError, Global};
+use std::alloc::Global;
 use std::process::Abort;
 use store_arguments::read_arguments;
 
@@ -130,10 +130,11 @@ static REFUSALS: [(&str, &str); 29] = [
 ];
 
 /// What is said of a line: nothing, if it isn't refused.
-fn said_of(alloc: Global, line: &str) -> Result<String, AllocError> {
-    match read_arguments(alloc, words_of(alloc, line)?.as_slice()) {
-        Ok(_) => Ok(String::new(alloc)),
-        Err(fault) => Ok(format!(in alloc; "{fault}")?),
+fn said_of(rt: &impl Abort, alloc: Global, line: &str) -> String {
+    let words = words_of(rt, alloc, line);
+    match read_arguments(alloc, words.as_slice()) {
+        Ok(_) => String::new(alloc),
+        Err(fault) => format!(in alloc; "{fault}").expect(rt, "a text"),
     }
 }
 
@@ -143,10 +144,9 @@ fn assert_said(rt: &impl Abort, said: &str, (line, text): &(&str, &str)) {
 }
 
 #[test]
-fn refusals_say_why(rt: HostRuntime) -> Result<(), AllocError> {
+fn refusals_say_why(rt: HostRuntime) {
     for refusal in &REFUSALS {
-        let said = said_of(rt.alloc(), refusal.0)?;
+        let said = said_of(&rt, rt.alloc(), refusal.0);
         assert_said(&rt, said.as_str(), refusal);
     }
-    Ok(())
 }
