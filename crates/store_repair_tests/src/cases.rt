@@ -2,6 +2,7 @@
 use crate::samples::{Fragments, SHORT, Sample, bytes_at};
 use lrc_code::{Code, Place};
 use std::alloc::{AllocError, Global};
+use std::process::Abort;
 use store_repair::{
     Found, MemoryStore, Reads, Repair, Stripe, StripeFiles, StripeOutcome, plan_stripe,
     repair_stripe, scrub_stripe,
@@ -114,10 +115,10 @@ pub(crate) fn put_case(store: &mut MemoryStore, case: &Case<'_>) -> Result<(), A
 }
 
 /// A store with that alone.
-pub(crate) fn store_of(alloc: Global, case: &Case<'_>) -> Result<MemoryStore, AllocError> {
+pub(crate) fn store_of(rt: &impl Abort, alloc: Global, case: &Case<'_>) -> MemoryStore {
     let mut store = MemoryStore::new(alloc);
-    put_case(&mut store, case)?;
-    Ok(store)
+    put_case(&mut store, case).expect(rt, "room for a case");
+    store
 }
 
 /// What is said of a case's stripe in a store where it is scrubbed, its repair planned, or it is repaired.
@@ -153,39 +154,41 @@ pub(crate) fn outcome_of(
 
 /// Whether the findings are a case's.
 pub(crate) fn are_findings(
+    rt: &impl Abort,
     alloc: Global,
     outcome: &StripeOutcome,
     case: &Case<'_>,
-) -> Result<bool, AllocError> {
+) -> bool {
     for (finding, (place, line)) in outcome.findings.iter().zip(case.said) {
-        let said = format!(in alloc; "{}", finding.reason)?;
+        let said = format!(in alloc; "{}", finding.reason).expect(rt, "a text");
         if finding.place != *place || said.as_str() != *line {
-            return Ok(false);
+            return false;
         }
     }
-    Ok(outcome.findings.len() == case.said.len())
+    outcome.findings.len() == case.said.len()
 }
 
 /// Whether an outcome says what a case is to say.
 pub(crate) fn is_as_said(
+    rt: &impl Abort,
     alloc: Global,
     outcome: &StripeOutcome,
     case: &Case<'_>,
-) -> Result<bool, AllocError> {
+) -> bool {
     for place in case.rebuilt {
         if !outcome.rebuilt.as_slice().contains(place)
             || outcome.is_checked_at(case.sample.code, *place) != case.is_covered
         {
-            return Ok(false);
+            return false;
         }
     }
     if outcome.rebuilt.len() != case.rebuilt.len()
         || outcome.survivors.len() != case.survivors
         || outcome.is_checked != case.is_checked
     {
-        return Ok(false);
+        return false;
     }
-    are_findings(alloc, outcome, case)
+    are_findings(rt, alloc, outcome, case)
 }
 
 /// Whether a case leaves this under a fragment's name and its second name.
@@ -219,15 +222,15 @@ pub(crate) fn is_left_in(store: &MemoryStore, case: &Case<'_>) -> bool {
 }
 
 /// Whether a case's repair says what it is to say, and leaves what it is to leave.
-pub(crate) fn is_repaired(alloc: Global, case: &Case<'_>) -> Result<bool, AllocError> {
-    let mut store = store_of(alloc, case)?;
-    let outcome = outcome_of(alloc, &mut store, case, Act::Repair)?;
-    Ok(is_left_in(&store, case) && is_as_said(alloc, &outcome, case)?)
+pub(crate) fn is_repaired(rt: &impl Abort, alloc: Global, case: &Case<'_>) -> bool {
+    let mut store = store_of(rt, alloc, case);
+    let outcome = outcome_of(alloc, &mut store, case, Act::Repair).expect(rt, "an outcome");
+    is_left_in(&store, case) && is_as_said(rt, alloc, &outcome, case)
 }
 
 /// Whether the repair's plan says the same.
-pub(crate) fn is_planned(alloc: Global, case: &Case<'_>) -> Result<bool, AllocError> {
-    let mut store = store_of(alloc, case)?;
-    let outcome = outcome_of(alloc, &mut store, case, Act::Plan)?;
-    is_as_said(alloc, &outcome, case)
+pub(crate) fn is_planned(rt: &impl Abort, alloc: Global, case: &Case<'_>) -> bool {
+    let mut store = store_of(rt, alloc, case);
+    let outcome = outcome_of(alloc, &mut store, case, Act::Plan).expect(rt, "an outcome");
+    is_as_said(rt, alloc, &outcome, case)
 }

@@ -6,8 +6,7 @@ use crate::samples::bytes_at;
 use folders::{Folder, NewFile};
 use lrc_code::Place;
 use memory_folder::{Fault, MemoryFolder};
-use std::alloc::AllocError;
-use std::io;
+use std::process::Abort;
 
 /// More ways for a crash to go than these aren't tried at one call.
 const MOST_WAYS: u64 = 300;
@@ -58,49 +57,62 @@ fn is_either_at(files: &MemoryFolder, case: &Case<'_>) -> bool {
 }
 
 /// Whether there is nothing but the stripe's fragments, the other stripe's, and files under temporary names.
-fn has_nothing_else(files: &MemoryFolder) -> Result<bool, AllocError> {
-    for path in files.paths()? {
+fn has_nothing_else(rt: &impl Abort, files: &MemoryFolder) -> bool {
+    let paths = files.paths().expect(rt, "paths");
+    for path in paths {
         let mut is_known = path == OTHER_PATH || path.starts_with("store/.rebuild-store-");
         for (_, name, second) in &PATHS {
             is_known = is_known || path == *name || path == *second;
         }
         if !is_known {
-            return Ok(false);
+            return false;
         }
     }
-    Ok(true)
+    true
+}
+
+/// What a crash may leave of a folder.
+fn left_by(rt: &impl Abort, files: &MemoryFolder, way: u64) -> MemoryFolder {
+    files.after_crash(way).expect(rt, "what a crash leaves")
+}
+
+/// Whether that is what a case leaves.
+fn is_left_after(rt: &impl Abort, files: &MemoryFolder, way: u64, case: &Case<'_>) -> bool {
+    is_left_at(&left_by(rt, files, way), case)
 }
 
 /// How many calls a case's repair makes that change something, if it says what it is to say, and that is on the disk: whatever a crash then
 /// leaves is what the case leaves. Else none.
-fn calls_when_done(rt: &HostRuntime, case: &Case<'_>) -> Result<u64, AllocError> {
-    let (outcome, files) = repaired(rt, folder_of(rt.alloc(), case)?, case, None);
-    let mut is_done = is_as_said(rt.alloc(), &outcome?, case)?;
+fn calls_when_done(abort: &impl Abort, rt: &HostRuntime, case: &Case<'_>) -> u64 {
+    let (outcome, files) = repaired(rt, folder_of(abort, rt.alloc(), case), case, None);
+    let outcome = outcome.expect(abort, "an outcome");
+    let mut is_done = is_as_said(abort, rt.alloc(), &outcome, case);
     for way in 0..files.crashes().min(MOST_WAYS) {
-        is_done = is_done && is_left_at(&files.after_crash(way)?, case);
+        is_done = is_done && is_left_after(abort, &files, way, case);
     }
-    Ok(if is_done { files.count() } else { 0 })
+    if is_done { files.count() } else { 0 }
 }
 
 /// Whether a crash left each name as it was or as it is to be, and the same repair then makes it as it is to be.
-fn is_mended(rt: &HostRuntime, left: MemoryFolder, case: &Case<'_>) -> Result<bool, AllocError> {
-    let is_either = is_either_at(&left, case) && has_nothing_else(&left)?;
+fn is_mended(abort: &impl Abort, rt: &HostRuntime, left: MemoryFolder, case: &Case<'_>) -> bool {
+    let is_either = is_either_at(&left, case) && has_nothing_else(abort, &left);
     let (again, files) = repaired(rt, left, case, None);
-    let is_all_said = again?.findings.is_empty() || !case.changes.is_empty();
-    Ok(is_either && is_all_said && is_left_at(&files, case))
+    let again = again.expect(abort, "an outcome");
+    let is_all_said = again.findings.is_empty() || !case.changes.is_empty();
+    is_either && is_all_said && is_left_at(&files, case)
 }
 
 /// Whether all is so after a fault, and after each crash then.
-fn is_survived(rt: &HostRuntime, case: &Case<'_>, fault: Fault) -> Result<bool, AllocError> {
-    let mut files = folder_of(rt.alloc(), case)?;
+fn is_survived(abort: &impl Abort, rt: &HostRuntime, case: &Case<'_>, fault: Fault) -> bool {
+    let mut files = folder_of(abort, rt.alloc(), case);
     files.fail(fault);
     let (_, files) = repaired(rt, files, case, None);
     for way in 0..files.crashes().min(MOST_WAYS) {
-        if !is_mended(rt, files.after_crash(way)?, case)? {
-            return Ok(false);
+        if !is_mended(abort, rt, left_by(abort, &files, way), case) {
+            return false;
         }
     }
-    Ok(is_either_at(&files, case))
+    is_either_at(&files, case)
 }
 
 /// Whether a call and all after it fail, and whether it is done all the same.
@@ -113,43 +125,41 @@ const WAYS_TO_FAIL: [(bool, bool); 4] = [
 
 /// Whether all is so where the machine stops at each call, or the call fails alone. There are more calls than so many.
 fn is_survived_at_each_call(
+    abort: &impl Abort,
     rt: &HostRuntime,
     case: &Case<'_>,
     least: u64,
-) -> Result<bool, AllocError> {
-    let calls = calls_when_done(rt, case)?;
+) -> bool {
+    let calls = calls_when_done(abort, rt, case);
     for at in 0..calls {
         for (lasts, is_done) in WAYS_TO_FAIL {
-            if !is_survived(rt, case, Fault { at, lasts, is_done })? {
-                return Ok(false);
+            if !is_survived(abort, rt, case, Fault { at, lasts, is_done }) {
+                return false;
             }
         }
     }
-    Ok(calls > least)
+    calls > least
 }
 
 /// Two are lost: whatever a crash leaves, each name is absent or whole, and the same repair then makes them whole.
 #[test]
-fn a_crash_leaves_each_name_absent_or_whole(rt: HostRuntime) -> Result<(), AllocError> {
-    let is = is_survived_at_each_call(&rt, &TWO_LOST, 8)?;
+fn a_crash_leaves_each_name_absent_or_whole(rt: HostRuntime) {
+    let is = is_survived_at_each_call(&rt, &rt, &TWO_LOST, 8);
     assert_holds(&rt, is, TWO_LOST.name);
-    Ok(())
 }
 
 /// A damaged fragment is replaced: it is under the one name or the other.
 #[test]
-fn a_crash_leaves_what_is_replaced(rt: HostRuntime) -> Result<(), AllocError> {
-    let is = is_survived_at_each_call(&rt, &REPLACED, 0)?;
+fn a_crash_leaves_what_is_replaced(rt: HostRuntime) {
+    let is = is_survived_at_each_call(&rt, &rt, &REPLACED, 0);
     assert_holds(&rt, is, REPLACED.name);
-    Ok(())
 }
 
 /// What a repair said to be done is on the disk.
 #[test]
-fn done_is_on_the_disk(rt: HostRuntime) -> Result<(), AllocError> {
-    let calls = calls_when_done(&rt, &THREE_LOST)?;
+fn done_is_on_the_disk(rt: HostRuntime) {
+    let calls = calls_when_done(&rt, &rt, &THREE_LOST);
     assert_holds(&rt, calls > 0, THREE_LOST.name);
-    Ok(())
 }
 
 /// What of a file that isn't on the disk a crash may leave, and how that is called.
@@ -162,29 +172,28 @@ static TORN: [(&str, Option<&[u8]>); 5] = [
 ];
 
 /// Whether some crash leaves these bytes of the file, or no file.
-fn may_be_left(files: &MemoryFolder, wanted: Option<&[u8]>) -> Result<bool, AllocError> {
+fn may_be_left(rt: &impl Abort, files: &MemoryFolder, wanted: Option<&[u8]>) -> bool {
     for way in 0..files.crashes() {
-        if files.after_crash(way)?.bytes_at("store/a") == wanted {
-            return Ok(true);
+        if left_by(rt, files, way).bytes_at("store/a") == wanted {
+            return true;
         }
     }
-    Ok(false)
+    false
 }
 
 /// A crash leaves of a file that isn't on the disk nothing, a half, all or other bytes, and leaves its path or not.
 #[test]
-fn a_crash_tears_what_is_not_on_the_disk(rt: HostRuntime) -> Result<(), io::Error> {
+fn a_crash_tears_what_is_not_on_the_disk(rt: HostRuntime) {
     let mut files = MemoryFolder::new(rt.alloc());
     files.fail(Fault {
         at: 1,
         lasts: false,
         is_done: false,
     });
-    let mut new = files.create_new("store/a", 0o600)?;
-    new.append(b"abcd")?;
+    let mut new = files.create_new("store/a", 0o600).expect(&rt, "a file");
+    new.append(b"abcd").expect(&rt, "bytes");
     assert_holds(&rt, files.sync(new).is_err(), "it isn't put on the disk");
     for (name, wanted) in &TORN {
-        assert_holds(&rt, may_be_left(&files, *wanted)?, name);
+        assert_holds(&rt, may_be_left(&rt, &files, *wanted), name);
     }
-    Ok(())
 }

@@ -4,7 +4,8 @@ use crate::cases::{Act, Case, REPLACING, WHOLE, is_left_in, outcome_of, store_of
 use crate::ranks::suspects_of;
 use crate::samples::{BOTH, Fragments, Sample, bytes_at};
 use lrc_code::{Code, Place, PlaceSet};
-use std::alloc::{AllocError, Global};
+use std::alloc::Global;
+use std::process::Abort;
 use store_repair::{Reason, StripeOutcome};
 
 /// A sample's fragment with another first byte.
@@ -79,12 +80,13 @@ fn losses_of(code: Code) -> &'static [&'static [Place]] {
 
 /// Whether a repair of a stripe with these losses and changes makes no other fragment than the sample's and others of these.
 fn makes_nothing_else(
+    rt: &impl Abort,
     alloc: Global,
     sample: &'static Sample,
     lost: &'static [Place],
     changes: Fragments<'_>,
     others: Fragments<'_>,
-) -> Result<bool, AllocError> {
+) -> bool {
     let case = Case {
         sample,
         lost,
@@ -92,52 +94,52 @@ fn makes_nothing_else(
         repair: REPLACING,
         ..WHOLE
     };
-    let mut store = store_of(alloc, &case)?;
-    outcome_of(alloc, &mut store, &case, Act::Repair)?;
+    let mut store = store_of(rt, alloc, &case);
+    outcome_of(alloc, &mut store, &case, Act::Repair).expect(rt, "an outcome");
     for (place, bytes) in sample.fragments {
         if let Some(found) = store.fragment(sample.name, *place) {
             if found != *bytes && bytes_at(others, *place) != Some(found) {
-                return Ok(false);
+                return false;
             }
         }
     }
-    Ok(true)
+    true
 }
 
 /// Whether two fragments make nothing else, both where they are exchanged, with one more lost at most, and where they are changed.
 fn makes_pair_nothing_else(
+    rt: &impl Abort,
     alloc: Global,
     sample: &'static Sample,
     one: Place,
     other: Place,
-) -> Result<bool, AllocError> {
+) -> bool {
     let exchanged = [
         (one, bytes_at(sample.fragments, other).unwrap_or(b"")),
         (other, bytes_at(sample.fragments, one).unwrap_or(b"")),
     ];
     for lost in losses_of(sample.code) {
-        if lost.len() < 2 && !makes_nothing_else(alloc, sample, lost, &exchanged, &exchanged)? {
-            return Ok(false);
+        if lost.len() < 2 && !makes_nothing_else(rt, alloc, sample, lost, &exchanged, &exchanged) {
+            return false;
         }
     }
     let first = flipped(sample, one);
     let second = flipped(sample, other);
     let changed = [(one, first.as_slice()), (other, second.as_slice())];
-    makes_nothing_else(alloc, sample, &[], &changed, &changed)
+    makes_nothing_else(rt, alloc, sample, &[], &changed, &changed)
 }
 
 #[test]
-fn two_damaged_fragments_make_nothing_wrong(rt: HostRuntime) -> Result<(), AllocError> {
+fn two_damaged_fragments_make_nothing_wrong(rt: HostRuntime) {
     for sample in &BOTH {
         let places = sample.code.places();
         for (index, one) in places.iter().enumerate() {
             for other in &places[..index] {
-                let is = makes_pair_nothing_else(rt.alloc(), sample, *one, *other)?;
+                let is = makes_pair_nothing_else(&rt, rt.alloc(), sample, *one, *other);
                 assert_holds(&rt, is, one.name());
             }
         }
     }
-    Ok(())
 }
 
 /// What x0 and the parities become where x0 becomes 01 23 45 67 89, by an independent computation.
@@ -175,18 +177,17 @@ fn written_of(
 /// An update that was torn: some of its four fragments are new, the others old, and one at most is lost. Each fragment is then of one
 /// generation or the other.
 #[test]
-fn torn_update_makes_nothing_of_neither_generation(rt: HostRuntime) -> Result<(), AllocError> {
+fn torn_update_makes_nothing_of_neither_generation(rt: HostRuntime) {
     for (sample, new) in [(&BOTH[0], &NEW_NARROW), (&BOTH[1], &NEW_WIDE)] {
         for written in 0..16u8 {
             let changes = written_of(sample, new, written);
             for lost in losses_of(sample.code) {
                 let is = lost.len() == 2
-                    || makes_nothing_else(rt.alloc(), sample, lost, &changes, new)?;
+                    || makes_nothing_else(&rt, rt.alloc(), sample, lost, &changes, new);
                 assert_holds(&rt, is, sample.name);
             }
         }
     }
-    Ok(())
 }
 
 /// Whether a scrub says once that there is damage: at a place that is the only suspect, or at one of just these.
@@ -211,14 +212,15 @@ fn is_suspected(outcome: &StripeOutcome, damaged: Place, expected: PlaceSet) -> 
 /// than two are, a repair makes of it what it must: it is replaced if it is named, and else nothing is written. One that is lost isn't
 /// damaged.
 fn is_named_or_suspected(
+    rt: &impl Abort,
     alloc: Global,
     sample: &'static Sample,
     lost: &'static [Place],
     damaged: Place,
     changes: Fragments<'_>,
-) -> Result<bool, AllocError> {
+) -> bool {
     if lost.contains(&damaged) {
-        return Ok(true);
+        return true;
     }
     let expected = suspects_of(sample.code, lost, damaged);
     let is_named = expected.len() == 1;
@@ -230,33 +232,32 @@ fn is_named_or_suspected(
         left: if is_named { &[] } else { sample.code.places() },
         ..WHOLE
     };
-    let mut store = store_of(alloc, &case)?;
-    let scrubbed = outcome_of(alloc, &mut store, &case, Act::Scrub)?;
+    let mut store = store_of(rt, alloc, &case);
+    let scrubbed = outcome_of(alloc, &mut store, &case, Act::Scrub).expect(rt, "an outcome");
     if lost.len() == 2 || !is_suspected(&scrubbed, damaged, expected) {
-        return Ok(is_suspected(&scrubbed, damaged, expected));
+        return is_suspected(&scrubbed, damaged, expected);
     }
-    let outcome = outcome_of(alloc, &mut store, &case, Act::Repair)?;
+    let outcome = outcome_of(alloc, &mut store, &case, Act::Repair).expect(rt, "an outcome");
     let is_told = if is_named {
         outcome.is_checked
     } else {
         outcome.rebuilt.is_empty()
     };
-    Ok(is_told && is_left_in(&store, &case))
+    is_told && is_left_in(&store, &case)
 }
 
 /// A damaged fragment is named where nothing is lost, since any two stripes differ in four places; else the suspects are those that the
 /// ranks of the equations' columns say.
 #[test]
-fn one_damaged_fragment_is_named_or_suspected(rt: HostRuntime) -> Result<(), AllocError> {
+fn one_damaged_fragment_is_named_or_suspected(rt: HostRuntime) {
     for sample in &BOTH {
         for damaged in sample.code.places() {
             let bytes = flipped(sample, *damaged);
             let changes = [(*damaged, bytes.as_slice())];
             for lost in losses_of(sample.code) {
-                let is = is_named_or_suspected(rt.alloc(), sample, lost, *damaged, &changes)?;
+                let is = is_named_or_suspected(&rt, rt.alloc(), sample, lost, *damaged, &changes);
                 assert_holds(&rt, is, damaged.name());
             }
         }
     }
-    Ok(())
 }

@@ -5,6 +5,7 @@ use crate::samples::SHORT;
 use lrc_code::{Code, Place};
 use memory_folder::MemoryFolder;
 use std::alloc::{AllocError, Global};
+use std::process::Abort;
 use store_folder::{FolderStore, Links, Pattern, SeparateStore, Site, Sums};
 use store_repair::{Found, Stripe, StripeFiles, StripeOutcome, repair_stripe};
 
@@ -39,15 +40,15 @@ pub(crate) const OTHER_PATH: &str = "store/b.x0";
 const OTHER: &[u8] = b"\x77";
 
 /// A folder with what a case of the short stripe has before its repair, and the other stripe's fragment.
-pub(crate) fn folder_of(alloc: Global, case: &Case<'_>) -> Result<MemoryFolder, AllocError> {
+pub(crate) fn folder_of(rt: &impl Abort, alloc: Global, case: &Case<'_>) -> MemoryFolder {
     let mut files = MemoryFolder::new(alloc);
-    files.put(OTHER_PATH, OTHER)?;
+    files.put(OTHER_PATH, OTHER).expect(rt, "room for a file");
     for (place, path, _) in &PATHS {
         if let Some(bytes) = had(case, *place) {
-            files.put(path, bytes)?;
+            files.put(path, bytes).expect(rt, "room for a file");
         }
     }
-    Ok(files)
+    files
 }
 
 /// Repairs a case's stripe in a folder with these sums, if there are any, and says what is in that then.
@@ -105,7 +106,7 @@ const DIFFERS: &str = "differs from the checksums";
 const REBUILT_DIFFERS: &str = "was rebuilt, and what was rebuilt differs from the checksums";
 
 /// Cases with digests that are said of fragments. x1 is 02.
-static CASES: [(Digests, Case<'static>); 6] = [
+static CASES: [(Digests, Case<'static>); 7] = [
     (
         &[("a.x1", OF_02)],
         Case {
@@ -166,6 +167,23 @@ static CASES: [(Digests, Case<'static>); 6] = [
     (
         &[("a.x1", OF_02)],
         Case {
+            name: "one that has its digest says the length, also beside a longer one",
+            lost: &[Place::X0],
+            changes: &[(Place::Y0, b"\x04\x00")],
+            repair: CHECKED,
+            rebuilt: &[Place::X0],
+            survivors: 8,
+            said: &[(
+                Some(Place::Y0),
+                "has another length than the other fragments of the stripe",
+            )],
+            left: &[Place::Y0],
+            ..WHOLE
+        },
+    ),
+    (
+        &[("a.x1", OF_02)],
+        Case {
             name: "where one of two has no digest as many are read as cover both: all eight",
             lost: &[Place::X1, Place::Y0],
             repair: CHECKED,
@@ -190,24 +208,26 @@ static CASES: [(Digests, Case<'static>); 6] = [
 
 /// Whether a case is repaired as it says in a folder whose sums say these digests.
 fn is_repaired_with(
+    abort: &impl Abort,
     rt: &HostRuntime,
     digests: Digests,
     case: &Case<'_>,
-) -> Result<bool, AllocError> {
+) -> bool {
     let mut sums = Sums::new(rt.alloc());
     for (name, digest) in digests {
-        sums.set(rt.alloc(), name, *digest)?;
+        sums.set(rt.alloc(), name, *digest)
+            .expect(abort, "room for a digest");
     }
-    let files = folder_of(rt.alloc(), case)?;
+    let files = folder_of(abort, rt.alloc(), case);
     let (outcome, files) = repaired(rt, files, case, Some(&sums));
-    Ok(is_left_at(&files, case) && is_as_said(rt.alloc(), &outcome?, case)?)
+    let outcome = outcome.expect(abort, "an outcome");
+    is_left_at(&files, case) && is_as_said(abort, rt.alloc(), &outcome, case)
 }
 
 #[test]
-fn digests_say_which_are_read_and_which_are_right(rt: HostRuntime) -> Result<(), AllocError> {
+fn digests_say_which_are_read_and_which_are_right(rt: HostRuntime) {
     for (digests, case) in &CASES {
-        let is = is_repaired_with(&rt, digests, case)?;
+        let is = is_repaired_with(&rt, &rt, digests, case);
         assert_holds(&rt, is, case.name);
     }
-    Ok(())
 }

@@ -3,7 +3,8 @@ use crate::asserting::assert_holds;
 use crate::cases::{Act, Case, REPLACING, WHOLE, are_findings, is_left_in, outcome_of, store_of};
 use crate::samples::NARROW;
 use lrc_code::Place;
-use std::alloc::{AllocError, Global};
+use std::alloc::Global;
+use std::process::Abort;
 use store_repair::{Reason, StripeOutcome};
 
 /// A stripe of which all is as it is to be.
@@ -171,41 +172,41 @@ pub(crate) const EMPTY: Case<'static> = Case {
 
 /// Whether an outcome says this length, or else the one line of the case.
 fn says(
+    rt: &impl Abort,
     alloc: Global,
     outcome: &StripeOutcome,
     length: Option<usize>,
     case: &Case<'_>,
-) -> Result<bool, AllocError> {
+) -> bool {
     let Some(length) = length else {
-        return Ok(outcome.rebuilt.is_empty() && are_findings(alloc, outcome, case)?);
+        return outcome.rebuilt.is_empty() && are_findings(rt, alloc, outcome, case);
     };
     for finding in &outcome.findings {
         if matches!(finding.reason, Reason::LengthsDiffer(_)) {
-            return Ok(false);
+            return false;
         }
     }
-    Ok(outcome.length == length)
+    outcome.length == length
 }
 
 /// Whether a scrub, a plan and a repair say it, and the repair leaves what the case says.
-fn is_decided(alloc: Global, length: Option<usize>, case: &Case<'_>) -> Result<bool, AllocError> {
-    let mut store = store_of(alloc, case)?;
+fn is_decided(rt: &impl Abort, alloc: Global, length: Option<usize>, case: &Case<'_>) -> bool {
+    let mut store = store_of(rt, alloc, case);
     for act in [Act::Scrub, Act::Plan, Act::Repair] {
-        let outcome = outcome_of(alloc, &mut store, case, act)?;
-        if !says(alloc, &outcome, length, case)? {
-            return Ok(false);
+        let outcome = outcome_of(alloc, &mut store, case, act).expect(rt, "an outcome");
+        if !says(rt, alloc, &outcome, length, case) {
+            return false;
         }
     }
-    Ok(is_left_in(&store, case))
+    is_left_in(&store, case)
 }
 
 /// A scrub, a plan and a repair say the same of the length, and the checks decide it and not the files' number. Where they don't, nothing
 /// is written.
 #[test]
-fn checks_decide_between_lengths(rt: HostRuntime) -> Result<(), AllocError> {
+fn checks_decide_between_lengths(rt: HostRuntime) {
     for (length, case) in &CASES {
-        let is = is_decided(rt.alloc(), *length, case)?;
+        let is = is_decided(&rt, rt.alloc(), *length, case);
         assert_holds(&rt, is, case.name);
     }
-    Ok(())
 }

@@ -3,7 +3,8 @@ use crate::asserting::assert_holds;
 use crate::cases::{CHECKED, Case, FEW, WHOLE, is_planned, is_repaired};
 use crate::samples::{BOTH, NARROW, Sample, WIDE};
 use lrc_code::{Code, Group, Place, PlaceSet};
-use std::alloc::{AllocError, Global};
+use std::alloc::Global;
+use std::process::Abort;
 use store_repair::is_covered;
 
 /// Whether both lost fragments are right though two others are damaged, by the code's equations (`tools/store.py`): where one is of each
@@ -17,11 +18,12 @@ fn are_covered(one: Place, other: Place) -> bool {
 
 /// Whether a stripe comes back from all others where these fragments are lost, is covered just if it is to be, and a plan says so.
 fn comes_back(
+    rt: &impl Abort,
     alloc: Global,
     sample: &'static Sample,
     lost: &[Place],
     is_covered: bool,
-) -> Result<bool, AllocError> {
+) -> bool {
     let case = Case {
         sample,
         lost,
@@ -30,40 +32,38 @@ fn comes_back(
         is_covered,
         ..WHOLE
     };
-    Ok(is_planned(alloc, &case)? && is_repaired(alloc, &case)?)
+    is_planned(rt, alloc, &case) && is_repaired(rt, alloc, &case)
 }
 
 /// Whether it does where a fragment is lost, with any one before it, and with any two.
 fn any_come_back(
+    rt: &impl Abort,
     alloc: Global,
     sample: &'static Sample,
     one: Place,
     before: &[Place],
-) -> Result<bool, AllocError> {
-    let mut is = comes_back(alloc, sample, &[one], true)?;
+) -> bool {
+    let mut is = comes_back(rt, alloc, sample, &[one], true);
     for (second, other) in before.iter().enumerate() {
-        is = is && comes_back(alloc, sample, &[*other, one], are_covered(*other, one))?;
+        is = is && comes_back(rt, alloc, sample, &[*other, one], are_covered(*other, one));
         for third in &before[..second] {
-            is = is && comes_back(alloc, sample, &[*third, *other, one], false)?;
+            is = is && comes_back(rt, alloc, sample, &[*third, *other, one], false);
         }
     }
-    Ok(is)
+    is
 }
 
 /// Each loss of three fragments is one that both codes recover. One lost fragment is covered, two of which one is of each group, and none
 /// of three.
 #[test]
-fn up_to_three_lost_fragments_come_back_and_are_covered_by_groups(
-    rt: HostRuntime,
-) -> Result<(), AllocError> {
+fn up_to_three_lost_fragments_come_back_and_are_covered_by_groups(rt: HostRuntime) {
     for sample in &BOTH {
         let places = sample.code.places();
         for (first, one) in places.iter().enumerate() {
-            let is = any_come_back(rt.alloc(), sample, *one, &places[..first])?;
+            let is = any_come_back(&rt, rt.alloc(), sample, *one, &places[..first]);
             assert_holds(&rt, is, one.name());
         }
     }
-    Ok(())
 }
 
 /// What survives and what the code doesn't have isn't covered.
@@ -91,11 +91,12 @@ static FEWEST: [(&Sample, [usize; 2], [usize; 2]); 2] = [
 
 /// Whether a lost fragment is rebuilt from so many survivors, and covered, with a plan that says so, from so many more.
 fn is_from_few(
+    rt: &impl Abort,
     alloc: Global,
     sample: &'static Sample,
     lost: &[Place],
     [few, covering]: [usize; 2],
-) -> Result<bool, AllocError> {
+) -> bool {
     let checked = Case {
         sample,
         lost,
@@ -111,24 +112,21 @@ fn is_from_few(
         is_covered: false,
         ..checked
     };
-    Ok(
-        is_repaired(alloc, &unchecked)?
-            && is_planned(alloc, &checked)?
-            && is_repaired(alloc, &checked)?,
-    )
+    is_repaired(rt, alloc, &unchecked)
+        && is_planned(rt, alloc, &checked)
+        && is_repaired(rt, alloc, &checked)
 }
 
 #[test]
-fn few_survivors_are_read(rt: HostRuntime) -> Result<(), AllocError> {
+fn few_survivors_are_read(rt: HostRuntime) {
     for (sample, of_group, of_global) in &FEWEST {
         for place in sample.code.places() {
             let survivors = match place.group() {
                 Some(_) => of_group,
                 None => of_global,
             };
-            let is = is_from_few(rt.alloc(), sample, &[*place], *survivors)?;
+            let is = is_from_few(&rt, rt.alloc(), sample, &[*place], *survivors);
             assert_holds(&rt, is, place.name());
         }
     }
-    Ok(())
 }

@@ -1,8 +1,8 @@
 //! The calls of a store in memory.
 use crate::asserting::assert_holds;
 use lrc_code::Place;
-use std::alloc::AllocError;
-use std::io::{self, ErrorKind};
+use std::io::ErrorKind;
+use std::process::Abort;
 use store_repair::{Fragment, MemoryFragment, MemoryStore, NewFragment, Placed, Store};
 
 /// What is put into a store.
@@ -23,16 +23,17 @@ static FOUND: [(&str, Place, Option<&[u8]>); 5] = [
 ];
 
 #[test]
-fn put_is_found(rt: HostRuntime) -> Result<(), AllocError> {
+fn put_is_found(rt: HostRuntime) {
     let mut store = MemoryStore::new(rt.alloc());
     for (stripe, place, bytes) in &PUT {
-        store.put(stripe, *place, bytes)?;
+        store
+            .put(stripe, *place, bytes)
+            .expect(&rt, "room for a fragment");
     }
     for (stripe, place, bytes) in &FOUND {
         let is = store.fragment(stripe, *place) == *bytes;
         assert_holds(&rt, is && store.kept(stripe, *place).is_none(), stripe);
     }
-    Ok(())
 }
 
 /// Whether a store has these bytes under x0's name and its second name.
@@ -49,79 +50,78 @@ fn refusal(store: &MemoryStore, place: Place, length: usize) -> Option<ErrorKind
 }
 
 /// Whether three bytes of a fragment from 2 on are these, and three from 4 on are too many.
-fn is_read(fragment: &MemoryFragment, wanted: [u8; 3]) -> Result<bool, io::Error> {
+fn is_read(fragment: &MemoryFragment, wanted: [u8; 3]) -> bool {
     let mut bytes = [0; 3];
-    fragment.read_at(2, &mut bytes)?;
-    let is = bytes == wanted;
+    let is = fragment.read_at(2, &mut bytes).is_ok() && bytes == wanted;
     match fragment.read_at(4, &mut bytes) {
-        Ok(()) => Ok(false),
-        Err(error) => Ok(is && error.kind() == ErrorKind::UnexpectedEof),
+        Ok(()) => false,
+        Err(error) => is && error.kind() == ErrorKind::UnexpectedEof,
     }
 }
 
 #[test]
-fn opened_fragment_is_read(rt: HostRuntime) -> Result<(), io::Error> {
+fn opened_fragment_is_read(rt: HostRuntime) {
     let mut store = MemoryStore::new(rt.alloc());
-    store.put("a", Place::X0, b"abcdef")?;
+    store
+        .put("a", Place::X0, b"abcdef")
+        .expect(&rt, "room for a fragment");
     let is_long = refusal(&store, Place::X0, 7) == Some(ErrorKind::UnexpectedEof);
     assert_holds(&rt, is_long, "x0 is shorter");
     let is_absent = refusal(&store, Place::X1, 6) == Some(ErrorKind::NotFound);
     assert_holds(&rt, is_absent, "x1 isn't there");
-    let fragment = store.open("a", Place::X0, 6)?;
-    assert_holds(&rt, is_read(&fragment, *b"cde")?, "x0 is read");
-    Ok(())
+    let fragment = store.open("a", Place::X0, 6).expect(&rt, "x0");
+    assert_holds(&rt, is_read(&fragment, *b"cde"), "x0 is read");
 }
 
 /// Makes a fragment of two parts, and gives it the name of x0, which has nothing else than these bytes until then.
 fn placed(
+    rt: &impl Abort,
     store: &mut MemoryStore,
     parts: [&[u8]; 2],
     before: Option<&[u8]>,
-) -> Result<Option<Placed>, io::Error> {
-    let mut fragment = store.create("a", Place::X0)?;
-    fragment.append(parts[0])?;
-    fragment.append(parts[1])?;
-    if !has(store, before, None) {
-        return Ok(None);
+) -> Option<Placed> {
+    let mut fragment = store.create("a", Place::X0).expect(rt, "a fragment");
+    let is_made = fragment.append(parts[0]).is_ok() && fragment.append(parts[1]).is_ok();
+    if !is_made || !has(store, before, None) {
+        return None;
     }
-    Ok(Some(store.place(fragment, "a", Place::X0)?))
+    store.place(fragment, "a", Place::X0).ok()
 }
 
 #[test]
-fn new_fragment_gets_its_name(rt: HostRuntime) -> Result<(), io::Error> {
+fn new_fragment_gets_its_name(rt: HostRuntime) {
     let mut store = MemoryStore::new(rt.alloc());
-    let first = placed(&mut store, [b"ab", b"c"], None)?;
+    let first = placed(&rt, &mut store, [b"ab", b"c"], None);
     assert_holds(&rt, first == Some(Placed::Placed), "the first gets it");
-    let second = placed(&mut store, [b"", b""], Some(b"abc"))?;
+    let second = placed(&rt, &mut store, [b"", b""], Some(b"abc"));
     assert_holds(&rt, second == Some(Placed::IsThere), "the second doesn't");
     assert_holds(&rt, has(&store, Some(b"abc"), None), "x0 is the first");
-    Ok(())
 }
 
 /// Replaces x0 by a fragment without bytes.
-fn replaced(store: &mut MemoryStore) -> Result<Placed, io::Error> {
-    let fragment = store.create("a", Place::X0)?;
-    store.replace(fragment, "a", Place::X0)
+fn replaced(rt: &impl Abort, store: &mut MemoryStore) -> Option<Placed> {
+    let fragment = store.create("a", Place::X0).expect(rt, "a fragment");
+    store.replace(fragment, "a", Place::X0).ok()
 }
 
 #[test]
-fn replaced_fragment_is_kept_once(rt: HostRuntime) -> Result<(), io::Error> {
+fn replaced_fragment_is_kept_once(rt: HostRuntime) {
     let mut store = MemoryStore::new(rt.alloc());
-    store.put("a", Place::X0, b"abc")?;
-    let first = replaced(&mut store)?;
-    let is_kept = first == Placed::Placed && has(&store, Some(b""), Some(b"abc"));
+    store
+        .put("a", Place::X0, b"abc")
+        .expect(&rt, "room for a fragment");
+    let first = replaced(&rt, &mut store);
+    let is_kept = first == Some(Placed::Placed) && has(&store, Some(b""), Some(b"abc"));
     assert_holds(&rt, is_kept, "it is kept");
-    let second = replaced(&mut store)?;
-    assert_holds(&rt, second == Placed::IsThere, "the second isn't");
-    Ok(())
+    let second = replaced(&rt, &mut store);
+    assert_holds(&rt, second == Some(Placed::IsThere), "the second isn't");
 }
 
 #[test]
-fn discarded_fragment_has_no_name(rt: HostRuntime) -> Result<(), io::Error> {
+fn discarded_fragment_has_no_name(rt: HostRuntime) {
     let mut store = MemoryStore::new(rt.alloc());
-    let fragment = store.create("a", Place::X0)?;
-    store.discard(fragment)?;
+    let fragment = store.create("a", Place::X0).expect(&rt, "a fragment");
+    assert_holds(&rt, store.discard(fragment).is_ok(), "it is discarded");
     assert_holds(&rt, store.settle().is_ok(), "it is settled");
     assert_holds(&rt, has(&store, None, None), "it has no name");
-    Ok(())
 }

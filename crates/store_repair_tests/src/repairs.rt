@@ -7,8 +7,9 @@ use crate::cases::{
 use crate::lengths::EMPTY;
 use crate::samples::{NARROW, WIDE};
 use lrc_code::{Code, Place};
-use std::alloc::AllocError;
-use store_repair::{MemoryStore, Reads, Repair};
+use std::alloc::{AllocError, Global};
+use std::process::Abort;
+use store_repair::{MemoryStore, Reads, Repair, StripeOutcome};
 
 /// One that takes only one fragment to be damaged.
 const GUESSING: Repair = Repair {
@@ -223,21 +224,19 @@ const GUESSED: Case<'static> = Case {
 const WRONG_GUESS: &str = "without px, x0 and x1 that are exchanged look like a damaged x2";
 
 #[test]
-fn each_case_is_repaired_as_it_says(rt: HostRuntime) -> Result<(), AllocError> {
+fn each_case_is_repaired_as_it_says(rt: HostRuntime) {
     for case in &CASES {
-        let is = is_repaired(rt.alloc(), case)?;
+        let is = is_repaired(&rt, rt.alloc(), case);
         assert_holds(&rt, is, case.name);
     }
-    Ok(())
 }
 
 #[test]
-fn what_is_not_covered_may_be_wrong(rt: HostRuntime) -> Result<(), AllocError> {
+fn what_is_not_covered_may_be_wrong(rt: HostRuntime) {
     for case in &UNCOVERED {
-        let is = is_repaired(rt.alloc(), case)?;
+        let is = is_repaired(&rt, rt.alloc(), case);
         assert_holds(&rt, is, case.name);
     }
-    Ok(())
 }
 
 /// The damaged stripe. Tests that use a static are proved faster than those that use a constant, which each use lays out anew.
@@ -249,19 +248,31 @@ static UNTOUCHED_ONE: Case<'static> = UNTOUCHED;
 /// A stripe of which as much is repaired as is lost.
 static WHOLE_ONE: Case<'static> = WHOLE;
 
+/// Repairs a case's stripe in a store.
+fn repair(
+    rt: &impl Abort,
+    alloc: Global,
+    store: &mut MemoryStore,
+    case: &Case<'_>,
+) -> StripeOutcome {
+    outcome_of(alloc, store, case, Act::Repair).expect(rt, "an outcome")
+}
+
 /// What was replaced before isn't lost: a second one stays where it is.
 #[test]
-fn second_damaged_fragment_of_a_place_stays(rt: HostRuntime) -> Result<(), AllocError> {
+fn second_damaged_fragment_of_a_place_stays(rt: HostRuntime) {
     let case = &DAMAGED_ONE;
-    let mut store = store_of(rt.alloc(), case)?;
-    outcome_of(rt.alloc(), &mut store, case, Act::Repair)?;
-    store.put(case.sample.name, Place::Py, b"\x02")?;
-    let outcome = outcome_of(rt.alloc(), &mut store, case, Act::Repair)?;
+    let name = case.sample.name;
+    let mut store = store_of(&rt, rt.alloc(), case);
+    repair(&rt, rt.alloc(), &mut store, case);
+    store
+        .put(name, Place::Py, b"\x02")
+        .expect(&rt, "room for a fragment");
+    let outcome = repair(&rt, rt.alloc(), &mut store, case);
     let is = outcome.rebuilt.is_empty()
-        && store.fragment(case.sample.name, Place::Py) == Some(b"\x02".as_slice())
-        && store.kept(case.sample.name, Place::Py) == Some(b"\x01".as_slice());
+        && store.fragment(name, Place::Py) == Some(b"\x02".as_slice())
+        && store.kept(name, Place::Py) == Some(b"\x01".as_slice());
     assert_holds(&rt, is, "the second stays, and the first is kept");
-    Ok(())
 }
 
 /// Stripes of one store, of which the last is repaired.
@@ -285,40 +296,49 @@ const OF_TWO: Case<'static> = Case {
 
 /// Other stripes of the store have losses and damage of their own.
 #[test]
-fn other_stripes_are_as_they_were(rt: HostRuntime) -> Result<(), AllocError> {
+fn other_stripes_are_as_they_were(rt: HostRuntime) {
     let mut store = MemoryStore::new(rt.alloc());
     for case in &STRIPES {
-        put_case(&mut store, case)?;
+        put_case(&mut store, case).expect(&rt, "room for a case");
     }
-    outcome_of(rt.alloc(), &mut store, &STRIPES[2], Act::Repair)?;
+    repair(&rt, rt.alloc(), &mut store, &STRIPES[2]);
     for case in &STRIPES {
         assert_holds(&rt, is_left_in(&store, case), case.sample.name);
     }
-    Ok(())
 }
 
 /// So many bytes are longer than a window.
 const LONG: usize = 200_001;
 
-/// Fragments that are longer than a window. At each position they are those of the short stripe, without x1 and p1.
-#[test]
-fn long_fragments_come_back(rt: HostRuntime) -> Result<(), AllocError> {
-    let sample = WHOLE_ONE.sample;
-    let mut store = MemoryStore::new(rt.alloc());
-    for (place, bytes) in sample.fragments {
+/// So many bytes of a value.
+fn long_of(rt: &impl Abort, alloc: Global, byte: u8) -> Vec<u8> {
+    vec![in alloc; byte; LONG].expect(rt, "room for a fragment")
+}
+
+/// The short stripe's fragments with each byte repeated, without x1 and p1.
+fn long_store(rt: &impl Abort, alloc: Global) -> MemoryStore {
+    let mut store = MemoryStore::new(alloc);
+    for (place, bytes) in WHOLE_ONE.sample.fragments {
         if *place != Place::X1 && *place != Place::P1 {
-            let long = vec![in rt.alloc(); *bytes.first().unwrap_or(&0); LONG]?;
-            store.put(sample.name, *place, long.as_slice())?;
+            let long = long_of(rt, alloc, *bytes.first().unwrap_or(&0));
+            let put = store.put(WHOLE_ONE.sample.name, *place, long.as_slice());
+            put.expect(rt, "room for a fragment");
         }
     }
-    let outcome = outcome_of(rt.alloc(), &mut store, &WHOLE_ONE, Act::Repair)?;
+    store
+}
+
+/// Fragments that are longer than a window. At each position they are those of the short stripe, without x1 and p1.
+#[test]
+fn long_fragments_come_back(rt: HostRuntime) {
+    let mut store = long_store(&rt, rt.alloc());
+    let outcome = repair(&rt, rt.alloc(), &mut store, &WHOLE_ONE);
     assert_holds(&rt, outcome.rebuilt.len() == 2, "two are rebuilt");
     for (place, byte) in [(Place::X1, 0x02), (Place::P1, 0x6e)] {
-        let long = vec![in rt.alloc(); byte; LONG]?;
-        let is = store.fragment(sample.name, place) == Some(long.as_slice());
+        let long = long_of(&rt, rt.alloc(), byte);
+        let is = store.fragment(WHOLE_ONE.sample.name, place) == Some(long.as_slice());
         assert_holds(&rt, is, place.name());
     }
-    Ok(())
 }
 
 /// The damaged stripe, of which nothing is rebuilt.
@@ -345,7 +365,8 @@ fn is_as_it_was_or_rebuilt(store: &MemoryStore, is_repaired: bool) -> bool {
 /// In a run that refuses an allocation this ends with the refusal, and then each name is as it was or rebuilt.
 #[test]
 fn each_name_is_as_it_was_or_rebuilt(rt: HostRuntime) -> Result<(), AllocError> {
-    let mut store = store_of(rt.alloc(), &DAMAGED_ONE)?;
+    let mut store = MemoryStore::new(rt.alloc());
+    put_case(&mut store, &DAMAGED_ONE)?;
     let repaired = outcome_of(rt.alloc(), &mut store, &DAMAGED_ONE, Act::Repair);
     let is = is_as_it_was_or_rebuilt(&store, repaired.is_ok());
     assert_holds(&rt, is, "each is as it was or rebuilt");
