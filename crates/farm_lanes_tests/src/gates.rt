@@ -1,115 +1,166 @@
-//! Runs of gates, in one thread and in several. What answers is gathered in a function of its own and compared in the test, once no gate is
-//! left: each assertion beside a gate or a seat makes the proof longer.
-ghost use Rattle.std.specs.Prelude.{◌≡◌, All, IfOk};
+//! Runs of gates, in one thread and in several. What is done with a seat is a table of steps, each with what has to come of it.
+ghost use Rattle.std.specs.Prelude.{◌≡◌, ◌/◌, ◌≤◌, All, replicate};
+ghost use Rattle.farm_lanes.specs.GateView.{opened};
 
+use crate::asserting::assert_holds;
+use crate::tally::Tally;
 use farm_lanes::{AlreadyClosed, Gate, GateError, GateRefusal, Right, Seat};
-use linked_list_allocator::LocalHeap;
-use std::alloc::{AllocError, Global};
-use std::test::Fail;
-use std::thread::{Threads, join, map_vec};
+use std::alloc::Global;
+use std::process::Abort;
+use std::thread::{Threads, for_each_mut, join};
 
-/// A seat's budget, and the greatest number that it was given.
-type Shown = (u64, Option<u64>);
-
-/// The new seat; two draws, a close and a draw after it; the seat then; a second close and a draw after that.
-type OneSeat = (
-    Shown,
-    [Result<u64, GateRefusal>; 2],
-    Result<u64, AlreadyClosed>,
-    Result<u64, GateRefusal>,
-    Shown,
-    Result<u64, AlreadyClosed>,
-    Result<u64, GateRefusal>,
-);
-
-fn answers_of_one_seat(alloc: Global) -> Result<OneSeat, GateError> {
-    let (gate, mut seats, mut rights) = Gate::open(alloc, 1, 2)?;
-    let Some(mut seat) = seats.pop() else {
-        unreachable!();
-    };
-    let (Some(first), Some(second)) = (rights.pop(), rights.pop()) else {
-        unreachable!();
-    };
-    let new = (seat.budget(), seat.last());
-    let drawn = [gate.draw(&mut seat), gate.draw(&mut seat)];
-    let closed = gate.close(&mut seat, first);
-    let late = gate.draw(&mut seat);
-    let left = (seat.budget(), seat.last());
-    let again = gate.close(&mut seat, second);
-    let last = gate.draw(&mut seat);
-    Ok((new, drawn, closed, late, left, again, last))
+/// What is done with a seat, and what has to come of it.
+enum Step {
+    /// Its budget, and the greatest number that it was given.
+    Shows(u64, Option<u64>),
+    /// A draw.
+    Draws(Result<u64, GateRefusal>),
+    /// A close, on which a right is spent.
+    Closes(Result<u64, AlreadyClosed>),
 }
+
+/// Whether a step gives what it has to.
+fn goes(gate: &Gate, seat: &mut Seat, rights: &mut Vec<Right>, step: &Step) -> bool
+    requires seat { seat.old.gate ≡ gate.now.id }
+    requires rights { All (λ r. r ≡ gate.now.id) rights.old.items }
+    ensures seat { seat.new.gate ≡ gate.now.id }
+    ensures rights { All (λ r. r ≡ gate.now.id) rights.new.items }
+{
+    match step {
+        Step::Shows(budget, last) => seat.budget() == *budget && seat.last() == *last,
+        Step::Draws(answer) => gate.draw(seat) == *answer,
+        Step::Closes(answer) => match rights.pop() {
+            Some(right) => gate.close(seat, right) == *answer,
+            None => false,
+        },
+    }
+}
+
+/// Asserts that each step gives what it has to.
+fn assert_steps(
+    rt: &impl Abort,
+    gate: &Gate,
+    seat: &mut Seat,
+    rights: &mut Vec<Right>,
+    steps: &[Step],
+)
+    requires seat { seat.old.gate ≡ gate.now.id }
+    requires rights { All (λ r. r ≡ gate.now.id) rights.old.items }
+    ensures seat { seat.new.gate ≡ gate.now.id }
+    ensures rights { All (λ r. r ≡ gate.now.id) rights.new.items }
+{
+    for number in 0..steps.len() {
+        let goes = goes(gate, seat, rights, &steps[number]);
+        assert_holds(rt, goes, "step", number);
+    }
+}
+
+/// Asserts the same of a seat that is let go then: its parts are dropped one after the other, so that it is done in one place.
+fn assert_last_steps(
+    rt: &impl Abort,
+    gate: &Gate,
+    mut seat: Seat,
+    rights: &mut Vec<Right>,
+    steps: &[Step],
+)
+    requires seat { seat.gate ≡ gate.now.id }
+    requires rights { All (λ r. r ≡ gate.now.id) rights.old.items }
+{
+    assert_steps(rt, gate, &mut seat, rights, steps);
+}
+
+/// A gate with its seats, and the rights that are left.
+struct Opened {
+    gate: Gate,
+    seats: Vec<Seat>,
+    rights: Vec<Right>,
+}
+
+impl Drop for Opened {
+    fn drop(self) {
+        let Opened {
+            gate: _,
+            seats: _,
+            rights: _,
+        } = self;
+    }
+}
+
+impl Opened {
+    /// A gate with so many seats and rights.
+    fn new(rt: &impl Abort, alloc: Global, seats: usize, rights: usize) -> Opened
+        ensures seats { result.seats.items ≡ replicate seats (opened result.gate.id (4294967296 / seats)) }
+        ensures rights { result.rights.items ≡ replicate rights result.gate.id }
+    {
+        let (gate, seats, rights) = Gate::open(alloc, seats, rights).expect(rt, "a gate");
+        Opened {
+            gate,
+            seats,
+            rights,
+        }
+    }
+}
+
+/// Two draws, a close and a draw after it; a second close and a draw after that.
+const ONE_SEAT: &[Step] = &[
+    Step::Shows(4294967296, None),
+    Step::Draws(Ok(0)),
+    Step::Draws(Ok(1)),
+    Step::Closes(Ok(2)),
+    Step::Draws(Err(GateRefusal::Closed)),
+    Step::Shows(4294967293, Some(1)),
+    Step::Closes(Err(AlreadyClosed)),
+    Step::Draws(Err(GateRefusal::Closed)),
+];
 
 /// Only the first of two closes says how many numbers were given, and a draw that found the gate closed is counted in the budget.
 #[test]
-fn closes_once_and_counts_the_refused_draw(rt: HostRuntime) -> Result<(), Fail> {
-    assert_eq!(rt;
-        answers_of_one_seat(rt.alloc())?,
-        (
-            (4294967296, None),
-            [Ok(0), Ok(1)],
-            Ok(2),
-            Err(GateRefusal::Closed),
-            (4294967293, Some(1)),
-            Err(AlreadyClosed),
-            Err(GateRefusal::Closed)
-        )
-    );
-    Ok(())
+fn closes_once_and_counts_the_refused_draw(rt: HostRuntime) {
+    let mut open = Opened::new(&rt, rt.alloc(), 1, 2);
+    let seat = open.seats.pop().expect(&rt, "a seat");
+    assert_last_steps(&rt, &open.gate, seat, &mut open.rights, ONE_SEAT);
 }
 
-/// A seat is cut in two, of which the second is given 10, and joined again: both budgets, and the budget of the whole. It is cut once
-/// more, and the second is given nothing: a draw at it, and its state after that; the budget of the whole, and a draw at it.
-type CutSeat = (
-    [u64; 3],
-    Result<u64, GateRefusal>,
-    Shown,
-    u64,
-    Result<u64, GateRefusal>,
-);
+/// What a seat does that was given nothing, and what the whole does that it is joined to again.
+const WITHOUT: &[Step] = &[
+    Step::Draws(Err(GateRefusal::SeatSpent)),
+    Step::Shows(0, None),
+];
 
-fn answers_of_a_cut_seat(alloc: Global) -> Result<CutSeat, GateError> {
-    let (gate, mut seats, _rights) = Gate::open(alloc, 1, 1)?;
-    let Some(seat) = seats.pop() else {
-        unreachable!();
-    };
-    let (first, second) = gate.split(seat, 10);
-    let budgets = (first.budget(), second.budget());
-    let all = gate.join(first, second);
-    let whole = all.budget();
-    let (first, mut second) = gate.split(all, 0);
-    let spent = gate.draw(&mut second);
-    let left = (second.budget(), second.last());
-    let mut all = gate.join(first, second);
-    let budget = all.budget();
-    let drawn = gate.draw(&mut all);
-    Ok(([budgets.0, budgets.1, whole], spent, left, budget, drawn))
-}
+const WHOLE: &[Step] = &[Step::Shows(4294967296, None), Step::Draws(Ok(0))];
 
 /// A seat that is cut in two keeps what the other isn't given. One that was given nothing is refused, and nothing changes.
 #[test]
-fn splits_the_budget_and_refuses_a_seat_without(rt: HostRuntime) -> Result<(), Fail> {
-    assert_eq!(rt;
-        answers_of_a_cut_seat(rt.alloc())?,
-        (
-            [4294967286, 10, 4294967296],
-            Err(GateRefusal::SeatSpent),
-            (0, None),
-            4294967296,
-            Ok(0)
-        )
-    );
-    Ok(())
+fn splits_the_budget_and_refuses_a_seat_without(rt: HostRuntime) {
+    let mut open = Opened::new(&rt, rt.alloc(), 1, 1);
+    let seat = open.seats.pop().expect(&rt, "a seat");
+    let seat = cut_and_join(&rt, &open.gate, seat);
+    assert_nothing_given(&rt, &open.gate, seat, &mut open.rights);
 }
 
-/// Whether each of three seats has a third of the draws, rounded down, and the numbers of seats and of rights.
-fn shares_of_three(alloc: Global) -> Result<(bool, usize, usize), GateError> {
-    let (_gate, seats, rights) = Gate::open(alloc, 3, 16)?;
-    let mut even = true;
-    for seat in &seats {
-        even = even && seat.budget() == 1_431_655_765;
-    }
-    Ok((even, seats.len(), rights.len()))
+/// Cuts a whole seat in two, of which the second is given 10, and joins it again.
+fn cut_and_join(rt: &impl Abort, gate: &Gate, seat: Seat) -> Seat
+    requires { seat ≡ opened gate.now.id 4294967296 }
+    ensures gate { result.gate ≡ gate.now.id }
+    ensures draws { result.has.draws ≤ result.has.share }
+{
+    let (first, second) = gate.split(seat, 10);
+    assert_holds(rt, first.budget() == 4294967286, "budget less", 10);
+    assert_holds(rt, second.budget() == 10, "budget of", 10);
+    let seat = gate.join(first, second);
+    assert_holds(rt, seat.budget() == 4294967296, "budget joined to", 10);
+    seat
+}
+
+/// Cuts it in two, of which the second is given nothing, and joins it again.
+fn assert_nothing_given(rt: &impl Abort, gate: &Gate, seat: Seat, rights: &mut Vec<Right>)
+    requires gate { seat.gate ≡ gate.now.id }
+    requires draws { seat.has.draws ≤ seat.has.share }
+    requires rights { All (λ r. r ≡ gate.now.id) rights.old.items }
+{
+    let (first, mut second) = gate.split(seat, 0);
+    assert_steps(rt, gate, &mut second, rights, WITHOUT);
+    assert_last_steps(rt, gate, gate.join(first, second), rights, WHOLE);
 }
 
 /// Numbers of seats and of rights of which one is out of its limits.
@@ -117,211 +168,134 @@ const BEYOND: &[(usize, usize)] = &[(0, 1), (17, 1), (1, 0), (1, 17), (0, 17)];
 
 /// The draws are shared out evenly over the seats.
 #[test]
-fn opens_within_the_limits(rt: HostRuntime) -> Result<(), Fail> {
-    let alloc: Global = rt.alloc();
-    assert_eq!(rt; shares_of_three(alloc)?, (true, 3, 16));
-    for (seats, rights) in BEYOND {
-        assert_eq!(rt;
-            Gate::open(alloc, *seats, *rights).err(),
-            Some(GateError::NoSeats),
-            "{seats} seats, {rights} rights"
-        );
+fn opens_within_the_limits(rt: HostRuntime) {
+    assert_thirds(&rt, &Opened::new(&rt, rt.alloc(), 3, 16));
+    for number in 0..BEYOND.len() {
+        let (seats, rights) = BEYOND[number];
+        let refused = refusal_of(rt.alloc(), seats, rights) == Some(GateError::NoSeats);
+        assert_holds(&rt, refused, "beyond the limits: row", number);
     }
-    Ok(())
 }
 
-/// A seat, and the numbers that were drawn at it. One for which there was no memory is missing.
-#[derive(Drop)]
-struct Drawn {
-    seat: Seat,
-    numbers: Vec<u64>,
+/// Asserts that there are three seats with a third of the draws each, rounded down, and sixteen rights.
+fn assert_thirds(rt: &impl Abort, open: &Opened) {
+    assert_holds(rt, open.seats.len() == 3, "seats, not", 3);
+    assert_holds(rt, open.rights.len() == 16, "rights, not", 16);
+    for number in 0..open.seats.len() {
+        let third = open.seats[number].budget() == 1_431_655_765;
+        assert_holds(rt, third, "a third at seat", number);
+    }
 }
 
-/// Draws so many times, or until the gate is closed.
-fn draw_many(alloc: Global, gate: &Gate, mut seat: Seat, times: u32) -> Drawn
-    requires { seat.gate ≡ gate.now.id }
-    ensures { result.seat.gate ≡ seat.gate }
+/// Why a gate isn't opened, if it isn't.
+pub(crate) fn refusal_of(alloc: Global, seats: usize, rights: usize) -> Option<GateError> {
+    Gate::open(alloc, seats, rights).err()
+}
+
+/// Draws so often, or until the gate is closed, and counts the numbers.
+fn draw(gate: &Gate, seat: &mut Seat, times: u32, drawn: &Tally)
+    requires { seat.old.gate ≡ gate.now.id }
+    ensures { seat.new.gate ≡ seat.old.gate }
 {
-    let mut numbers = Vec::new(alloc);
     for _ in 0..times {
-        let Ok(number) = gate.draw(&mut seat) else {
+        let Ok(number) = gate.draw(seat) else {
             break;
         };
-        let _pushed = numbers.push(number);
+        drawn.count(number);
     }
-    Drawn { seat, numbers }
 }
 
-/// Draws so many times at each of these seats, in a thread of its own.
+/// Draws so often at each of four seats or fewer, in a thread of its own.
 fn draw_at_each<R: Threads + Sync>(
     rt: &R,
-    alloc: Global,
     gate: &Gate,
-    seats: Vec<Seat>,
+    seats: &mut [Seat],
     times: u32,
-) -> Result<Vec<Drawn>, AllocError>
-    requires { All (λ s. s.gate ≡ gate.now.id) seats.items }
-    ensures { IfOk result (λ v. All (λ d. d.seat.gate ≡ gate.now.id) v.items) }
+    drawn: &Tally,
+)
+    requires { All (λ s. s.gate ≡ gate.now.id) seats.old }
+    ensures { All (λ s. s.gate ≡ gate.now.id) seats.new }
 {
-    map_vec(rt, seats, &|seat| draw_many(alloc, gate, seat, times))
+    for_each_mut(rt, seats, 4, &|_, seat| draw(gate, seat, times, drawn));
 }
 
-/// The seats as one, and all numbers from the least to the greatest.
-fn together(gate: &Gate, first: Drawn, mut others: Vec<Drawn>) -> Result<Drawn, AllocError>
-    requires first { first.seat.gate ≡ gate.now.id }
-    requires others { All (λ d. d.seat.gate ≡ gate.now.id) others.items }
-    ensures { IfOk result (λ d. d.seat.gate ≡ gate.now.id) }
+/// All seats as one.
+fn together(rt: &impl Abort, gate: &Gate, seats: &mut Vec<Seat>) -> Seat
+    requires { All (λ s. s.gate ≡ gate.now.id) seats.old.items }
+    ensures { result.gate ≡ gate.now.id }
 {
-    let Drawn {
-        mut seat,
-        mut numbers,
-    } = first;
-    for _ in 0..3u32 {
-        let Some(other) = others.pop() else {
-            break;
-        };
-        seat = gate.join(seat, other.seat);
-        numbers.extend_from_slice(&other.numbers)?;
+    let mut all = seats.pop().expect(rt, "a seat");
+    while let Some(seat) = seats.pop() {
+        all = gate.join(all, seat);
     }
-    numbers.sort()?;
-    Ok(Drawn { seat, numbers })
+    all
 }
 
-/// Whether these are 0, 1, 2 and so on.
-fn count_up(numbers: &[u64]) -> bool {
-    for (place, number) in numbers.iter().enumerate() {
-        if *number != place as u64 {
-            return false;
-        }
-    }
-    true
-}
-
-/// How many numbers four seats were given and whether they count up; the joined seat; the close's answer, and a draw after it.
-type FourSeats = (
-    (usize, bool),
-    Shown,
-    Result<u64, AlreadyClosed>,
-    Result<u64, GateRefusal>,
-);
-
-/// Four threads with 1,000 draws each, the seats joined, and then the close.
-fn draw_by_four<R: Threads + Sync>(rt: &R, alloc: Global) -> Result<FourSeats, Fail> {
-    let (gate, seats, mut rights) = Gate::open(alloc, 4, 1)?;
-    let mut drawn = draw_at_each(rt, alloc, &gate, seats, 1000)?;
-    let (Some(first), Some(right)) = (drawn.pop(), rights.pop()) else {
-        return Err(Fail::from("no seat or no right"));
-    };
-    let Drawn { mut seat, numbers } = together(&gate, first, drawn)?;
-    let joined = (seat.budget(), seat.last());
-    let closed = gate.close(&mut seat, right);
-    let late = gate.draw(&mut seat);
-    Ok(((numbers.len(), count_up(&numbers)), joined, closed, late))
-}
+/// What the seats of four threads are once they are one, with 1,000 draws each: the close that comes then, and a draw after it.
+const FOUR_SEATS: &[Step] = &[
+    Step::Shows(4_294_963_296, Some(3999)),
+    Step::Closes(Ok(4000)),
+    Step::Draws(Err(GateRefusal::Closed)),
+];
 
 /// Four threads draw each number below 4,000 once.
 #[test]
-fn draws_each_number_once(rt: HostRuntime) -> Result<(), Fail> {
-    assert_eq!(rt;
-        draw_by_four(&rt, rt.alloc())?,
-        (
-            (4000, true),
-            (4_294_963_296, Some(3999)),
-            Ok(4000),
-            Err(GateRefusal::Closed)
-        )
-    );
-    Ok(())
+fn draws_each_number_once(rt: HostRuntime) {
+    let mut open = Opened::new(&rt, rt.alloc(), 4, 1);
+    let drawn = Tally::new(&rt, rt.alloc(), 4000);
+    draw_at_each(&rt, &open.gate, open.seats.as_mut_slice(), 1000, &drawn);
+    drawn.assert_once_below(&rt, 4000);
+    let seat = together(&rt, &open.gate, &mut open.seats);
+    assert_last_steps(&rt, &open.gate, seat, &mut open.rights, FOUR_SEATS);
 }
 
-/// Draws ten times, and then closes the gate.
+/// Draws ten times, and then closes the gate: how many numbers were given, or nothing where it was closed.
 fn draw_ten_and_close(
-    alloc: Global,
     gate: &Gate,
-    seat: Seat,
-    right: Right,
-) -> (Drawn, Result<u64, AlreadyClosed>)
-    requires { (seat.gate ≡ gate.now.id) × (right ≡ gate.now.id) }
-    ensures { result.0.seat.gate ≡ gate.now.id }
+    seat: &mut Seat,
+    rights: &mut Vec<Right>,
+    drawn: &Tally,
+) -> Option<u64>
+    requires seat { seat.old.gate ≡ gate.now.id }
+    requires rights { All (λ r. r ≡ gate.now.id) rights.old.items }
 {
-    let mut drawn = draw_many(alloc, gate, seat, 10);
-    let answer = gate.close(&mut drawn.seat, right);
-    (drawn, answer)
+    draw(gate, seat, 10, drawn);
+    gate.close(seat, rights.pop()?).ok()
 }
 
-/// Threads that draw at these seats until the gate is closed, and one that draws ten times and closes it: how many numbers were given,
-/// whether they count up, and the close's answer.
+/// Threads that draw at three seats until the gate is closed, and one that draws ten times at a fourth seat and closes it: how many numbers
+/// were given.
 fn draw_until_closed<R: Threads + Sync>(
     rt: &R,
-    alloc: Global,
     gate: &Gate,
-    seats: Vec<Seat>,
-    closer: Seat,
-    right: Right,
-) -> Result<(usize, bool, Result<u64, AlreadyClosed>), AllocError>
-    requires seats { All (λ s. s.gate ≡ gate.now.id) seats.items }
-    requires closer { (closer.gate ≡ gate.now.id) × (right ≡ gate.now.id) }
+    seats: &mut [Seat],
+    mut seat: Seat,
+    rights: &mut Vec<Right>,
+    drawn: &Tally,
+) -> Option<u64>
+    requires seats { All (λ s. s.gate ≡ gate.now.id) seats.old }
+    requires seat { seat.gate ≡ gate.now.id }
+    requires rights { All (λ r. r ≡ gate.now.id) rights.old.items }
 {
-    let (drawn, (last, closed)) = join(
+    let (_, count) = join(
         rt,
-        move || -> Result<Vec<Drawn>, AllocError>
-            requires { All (λ s. s.gate ≡ gate.now.id) seats.items }
-            ensures { IfOk result (λ v. All (λ d. d.seat.gate ≡ gate.entry.now.id) v.items) }
-        { draw_at_each(rt, alloc, gate, seats, 100_000) },
-        move || -> (Drawn, Result<u64, AlreadyClosed>)
-            requires { (closer.gate ≡ gate.now.id) × (right ≡ gate.now.id) }
-            ensures { result.0.seat.gate ≡ gate.entry.now.id }
-        { draw_ten_and_close(alloc, gate, closer, right) },
+        ||
+            requires { All (λ s. s.gate ≡ gate.now.id) seats.now }
+        { draw_at_each(rt, gate, seats, 100_000, drawn) },
+        || draw_ten_and_close(gate, &mut seat, rights, drawn),
     );
-    let Drawn { seat: _, numbers } = together(gate, last, drawn?)?;
-    Ok((numbers.len(), count_up(&numbers), closed))
-}
-
-/// Three threads draw until the gate is closed, and a fourth draws ten times and closes it.
-fn close_among_four<R: Threads + Sync>(
-    rt: &R,
-    alloc: Global,
-) -> Result<(usize, bool, Result<u64, AlreadyClosed>), Fail> {
-    let (gate, mut seats, mut rights) = Gate::open(alloc, 4, 1)?;
-    let (Some(closer), Some(right)) = (seats.pop(), rights.pop()) else {
-        unreachable!();
-    };
-    Ok(draw_until_closed(rt, alloc, &gate, seats, closer, right)?)
+    count
 }
 
 /// The numbers that were given are those below the close's answer.
 #[test]
-fn gives_the_numbers_below_the_closes_answer(rt: HostRuntime) -> Result<(), Fail> {
-    let (count, all, closed) = close_among_four(&rt, rt.alloc())?;
-    assert_eq!(rt; closed, Ok(count as u64));
-    assert!(rt; all, "a number is given twice or not at all");
-    assert!(rt; count >= 10, "{count} numbers");
-    Ok(())
-}
-
-/// Where the gate's room is refused, that is said, and nothing else. The heap grows by steps
-/// smaller than any allocation, so that each allocation in turn is the one that is refused.
-#[test]
-fn refused_memory_is_said(rt: HostRuntime) {
-    let alloc: Global = rt.alloc();
-    let mut refused = false;
-    let mut opened = false;
-    for words in 0..1000usize {
-        let Ok(heap) = LocalHeap::new(alloc, 8 * words) else {
-            continue;
-        };
-        match Gate::open_in(&heap, 4, 2) {
-            Ok(_) => opened = true,
-            Err(GateError::OutOfMemory) => refused = true,
-            Err(GateError::NoSeats) => break,
-        }
-        if opened {
-            break;
-        }
-    }
-    assert!(rt; refused, "no memory is refused");
-    assert!(rt;
-        opened,
-        "the gate is never opened, or another error is said"
-    );
+fn gives_the_numbers_below_the_closes_answer(rt: HostRuntime) {
+    let mut open = Opened::new(&rt, rt.alloc(), 4, 1);
+    let drawn = Tally::new(&rt, rt.alloc(), 300_010);
+    let seat = open.seats.pop().expect(&rt, "a seat");
+    let seats = open.seats.as_mut_slice();
+    let count = draw_until_closed(&rt, &open.gate, seats, seat, &mut open.rights, &drawn);
+    let count = count.expect(&rt, "the gate was closed already");
+    drawn.assert_once_below(&rt, count);
+    assert_holds(&rt, count >= 10, "ten numbers, not", count as usize);
 }

@@ -3,8 +3,14 @@
 #![tactic(auto)]
 
 #[cfg(test)]
+mod asserting;
+#[cfg(test)]
 mod gates;
 #[cfg(test)]
 mod lanes;
 #[cfg(test)]
+mod memory;
+#[cfg(test)]
 mod surface;
+#[cfg(test)]
+mod tally;

@@ -1,5 +1,4 @@
 use Rattle.std.proofs.Common.{arith, sym, ◌∙◌}
-use Rattle.std.proofs.lemmas.Result.{IfOk-at_ok}
 use Rattle.farm_lanes_tests.proofs.SmallLanes.{all_ends}
 use Rattle.farm_lanes_tests.proofs.lanes.run_lane.Goals as goal
 
@@ -7,10 +6,13 @@ pub settle-settled-requires : goal.settle-settled-requires
 settle-settled-requires g c =
     let put = c.join-ended.ensures.first in
     let took = c.join-ended.ensures.second in
-    let ended = c.in_ok-ended.was in
-    let taken = c.in_ok-taken.was in
-    all_ends 4 2 _ _ _ _ c.in_ok-puts.ensures.ends (omega arith)
-    (sym c.in_ok-ended.ended.ok.0 ∙ (IfOk-at_ok _ ended put.0 ∙ c.in_ok-puts.puts.ok.0))
-    (sym c.in_ok-taken.taken.ok.0 ∙ (IfOk-at_ok _ taken took.0 ∙ c.in_ok-puts.takes.ok.0))
-    (λ i d e below. IfOk-at_ok _ ended put.1 i d e (let l = c.in_ok-puts.puts.ok.0 in omega arith))
-    (λ i d e below. IfOk-at_ok _ taken took.1 i d e (let l = c.in_ok-puts.takes.ok.0 in omega arith))
+    let o = rw c.expect-puts.ensures at c.«open».ensures.ends in
+    let puts = c.expect-puts.result.0 in
+    let takes = c.expect-puts.result.1 in
+    let ended = c.join-ended.result.0 in
+    let taken = c.join-ended.result.1 in
+    all_ends 4 2 _ _ _ _ o (omega arith)
+    (sym ended.ok.0 ∙ (put.0 ∙ puts.ok.0))
+    (sym taken.ok.0 ∙ (took.0 ∙ takes.ok.0))
+    (λ i d e below. put.1 i d e (let l = puts.ok.0 in omega arith))
+    (λ i d e below. took.1 i d e (let l = takes.ok.0 in omega arith))
