@@ -1,4 +1,5 @@
 //! The limits of racks and settings, the collector, and runs, with answers from outside.
+mod asserting;
 mod collecting;
 mod feeding;
 mod held;

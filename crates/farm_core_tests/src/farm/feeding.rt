@@ -1,24 +1,19 @@
 //! Racks with several feeds.
-use crate::farm::holding::{Hold, Holding};
+use crate::farm::holding::Hold;
 use crate::farm::requests::{Entry, GLOBAL, LOCAL, SEVERAL, STRIPES, lists_of, shown};
-use crate::farm::running::settings_of;
-use farm_core::{FarmError, Feeds, NoPause, Pause, run_feeds};
+use crate::farm::running::{Asked, Run, assert_runs};
+use farm_core::Feeds;
 use lrc_code::Outcome;
-use std::alloc::{AllocError, Global};
+use std::alloc::Global;
 use std::process::Abort;
-use std::sync::Wait;
-use std::thread::Threads;
 
 /// The feeds of racks whose feeds have these entries.
-fn feeds_of(rt: &impl Abort, alloc: Global, asked: &[&[&[Entry]]]) -> Result<Feeds, AllocError> {
+pub(crate) fn feeds_of(rt: &impl Abort, alloc: Global, asked: &[&[&[Entry]]]) -> Feeds {
     let mut racks = Vec::new(alloc);
     for rack in asked {
-        racks.push(lists_of(rt, alloc, rack)?)?;
+        racks.push(lists_of(rt, alloc, rack)).expect(rt, "racks");
     }
-    match Feeds::new(racks) {
-        Ok(feeds) => Ok(feeds),
-        Err(_) => panic!(rt; "bad feeds"),
-    }
+    Feeds::new(racks).expect(rt, "feeds")
 }
 
 /// The number of a rack, and the answers to each of its feeds, in their order, each as `shown` gives it.
@@ -56,7 +51,11 @@ fn are_allowed(rack: usize, answers: &[(usize, Outcome)], allowed: &[ByFeed]) ->
 }
 
 /// Whether those to each of so many racks are.
-fn are_all_allowed(count: usize, racks: &[Vec<(usize, Outcome)>], allowed: &[ByFeed]) -> bool {
+pub(crate) fn are_all_allowed(
+    count: usize,
+    racks: &[Vec<(usize, Outcome)>],
+    allowed: &[ByFeed],
+) -> bool {
     for (rack, answers) in racks.iter().enumerate() {
         if !are_allowed(rack, answers.as_slice(), allowed) {
             return false;
@@ -65,133 +64,87 @@ fn are_all_allowed(count: usize, racks: &[Vec<(usize, Outcome)>], allowed: &[ByF
     racks.len() == count
 }
 
-/// Whether a run of so many workers, with a queue of so many jobs, gives each of these racks answers that are allowed; out of memory if it
-/// has none.
-pub(crate) fn is_fed<R: Abort + Threads + Wait + Sync, P: Pause>(
-    rt: &R,
-    alloc: Global,
-    asked: &[&[&[Entry]]],
-    settings: (usize, usize),
-    pause: &P,
-    allowed: &[ByFeed],
-) -> Result<bool, AllocError> {
-    let settings = settings_of(rt, settings);
-    let feeds = feeds_of(rt, alloc, asked)?;
-    match run_feeds(rt, alloc, &feeds, settings, pause) {
-        Ok(racks) => Ok(are_all_allowed(asked.len(), racks.as_slice(), allowed)),
-        Err(FarmError::OutOfMemory | FarmError::NoThread) => Err(AllocError),
-    }
-}
-
 const CLOSE: Entry = Entry::Close;
 
-/// A rack without a close, one of closes alone, one whose close is in the other feed, and one of two feeds with a close.
-const TWO_FEEDS: &[&[&[Entry]]] = &[
-    &[&[LOCAL, SEVERAL], &[GLOBAL]],
-    &[&[CLOSE], &[CLOSE]],
-    &[&[CLOSE], &[LOCAL]],
-    &[&[LOCAL, CLOSE, GLOBAL], &[LOCAL, CLOSE, GLOBAL]],
-];
-
-/// The first feed of the first rack gets a byte and several, the second a byte; the closes get nothing; the request beside a close is
-/// answered if it is drawn first; and of the last rack one feed gets its answer, or both.
-const ANSWERS_OF_TWO_FEEDS: &[ByFeed] = &[
-    (0, &[&[0x01, STRIPES], &[0x6e]]),
-    (1, &[&[], &[]]),
-    (2, &[&[], &[]]),
-    (2, &[&[], &[0x01]]),
-    (3, &[&[0x01], &[]]),
-    (3, &[&[], &[0x01]]),
-    (3, &[&[0x01], &[0x01]]),
-];
-
-/// A hundred times, with 3 workers and queue 1.
-#[test]
-fn feeds_are_answered_up_to_a_close(rt: HostRuntime) -> Result<(), AllocError> {
-    let mut fed = true;
-    for _ in 0..100 {
-        fed = fed
-            && is_fed(
-                &rt,
-                rt.alloc(),
-                TWO_FEEDS,
-                (3, 1),
-                &NoPause,
-                ANSWERS_OF_TWO_FEEDS,
-            )?;
-    }
-    assert!(rt; fed, "other answers");
-    Ok(())
-}
+/// A rack without a close, one of closes alone, one whose close is in the other feed, and one of two feeds with a close. The first feed of
+/// the first rack gets a byte and several, the second a byte; the closes get nothing; the request beside a close is answered if it is drawn
+/// first; and of the last rack one feed gets its answer, or both.
+const TWO_FEEDS: Asked = Asked::Feeds(
+    &[
+        &[&[LOCAL, SEVERAL], &[GLOBAL]],
+        &[&[CLOSE], &[CLOSE]],
+        &[&[CLOSE], &[LOCAL]],
+        &[&[LOCAL, CLOSE, GLOBAL], &[LOCAL, CLOSE, GLOBAL]],
+    ],
+    &[
+        (0, &[&[0x01, STRIPES], &[0x6e]]),
+        (1, &[&[], &[]]),
+        (2, &[&[], &[]]),
+        (2, &[&[], &[0x01]]),
+        (3, &[&[0x01], &[]]),
+        (3, &[&[], &[0x01]]),
+        (3, &[&[0x01], &[0x01]]),
+    ],
+);
 
 const RACED: &[&[&[Entry]]] = &[&[&[CLOSE], &[LOCAL]]];
 
-/// What is answered where the feeder of the close goes first.
-const CLOSE_FIRST: &[ByFeed] = &[(0, &[&[], &[]])];
-
-/// What is answered where the feeder of the request goes first.
-const REQUEST_FIRST: &[ByFeed] = &[(0, &[&[], &[0x01]])];
-
-/// Whether the answers are those that they are where the feeder of this feed goes first.
-fn answers_with_first<R: Abort + Threads + Wait + Sync>(
-    rt: &R,
-    alloc: Global,
-    first: usize,
-    wanted: &[ByFeed],
-) -> Result<bool, AllocError> {
-    let pause = Holding::new(Hold::First(first));
-    let fed = is_fed(rt, alloc, RACED, (3, 1), &pause, wanted)?;
-    // A draw that is refused is counted too.
-    Ok(fed && pause.held() && pause.passed() == 2)
-}
-
-/// The feeders of a rack run at the same time: either may go first.
-#[test]
-fn either_feed_may_go_first(rt: HostRuntime) -> Result<(), AllocError> {
-    let mut first = true;
-    let mut second = true;
-    for _ in 0..100 {
-        second = second && answers_with_first(&rt, rt.alloc(), 1, REQUEST_FIRST)?;
-        first = first && answers_with_first(&rt, rt.alloc(), 0, CLOSE_FIRST)?;
-    }
-    assert_eq!(rt; (first, second), (true, true));
-    Ok(())
-}
-
-/// One rack with one feed of these requests, the queue of the run, and the answers.
-type Queued = (
-    &'static [&'static [&'static [Entry]]],
-    usize,
-    &'static [ByFeed],
-);
-
-const QUEUED: &[Queued] = &[
-    (&[&[&[LOCAL; 4]]], 1, &[(0, &[&[0x01; 4]])]),
-    (&[&[&[LOCAL; 7]]], 4, &[(0, &[&[0x01; 7]])]),
-    (&[&[&[LOCAL; 8]]], 5, &[(0, &[&[0x01; 8]])]),
-    (&[&[&[LOCAL; 10]]], 7, &[(0, &[&[0x01; 10]])]),
+const RUNS: &[Run] = &[
+    Run {
+        name: "feeds are answered up to a close",
+        asked: TWO_FEEDS,
+        settings: (3, 1),
+        hold: None,
+        times: 100,
+    },
+    // The feeders of a rack run at the same time: either may go first.
+    Run {
+        name: "the feeder of the request goes first",
+        asked: Asked::Feeds(RACED, &[(0, &[&[], &[0x01]])]),
+        settings: (3, 1),
+        hold: Some(Hold::First(1, 2)),
+        times: 100,
+    },
+    Run {
+        name: "the feeder of the close goes first",
+        asked: Asked::Feeds(RACED, &[(0, &[&[], &[]])]),
+        settings: (3, 1),
+        hold: Some(Hold::First(0, 2)),
+        times: 100,
+    },
+    // While its one worker is held in the first request, as many jobs wait as the queue holds, and one more at its end: no more and no
+    // fewer.
+    Run {
+        name: "a queue of one fills",
+        asked: Asked::Feeds(&[&[&[LOCAL; 4]]], &[(0, &[&[0x01; 4]])]),
+        settings: (1, 1),
+        hold: Some(Hold::Full(2)),
+        times: 1,
+    },
+    Run {
+        name: "a queue of four fills",
+        asked: Asked::Feeds(&[&[&[LOCAL; 7]]], &[(0, &[&[0x01; 7]])]),
+        settings: (1, 4),
+        hold: Some(Hold::Full(5)),
+        times: 1,
+    },
+    Run {
+        name: "a queue of five fills",
+        asked: Asked::Feeds(&[&[&[LOCAL; 8]]], &[(0, &[&[0x01; 8]])]),
+        settings: (1, 5),
+        hold: Some(Hold::Full(6)),
+        times: 1,
+    },
+    Run {
+        name: "a queue of seven fills",
+        asked: Asked::Feeds(&[&[&[LOCAL; 10]]], &[(0, &[&[0x01; 10]])]),
+        settings: (1, 7),
+        hold: Some(Hold::Full(8)),
+        times: 1,
+    },
 ];
 
-/// Whether the answers of one worker are these, and whether, while it is held in the first request, as many jobs wait as the queue holds,
-/// and one more at its end.
-fn fills<R: Abort + Threads + Wait + Sync>(
-    rt: &R,
-    alloc: Global,
-    asked: &[&[&[Entry]]],
-    queue: usize,
-    wanted: &[ByFeed],
-) -> Result<(bool, bool), AllocError> {
-    let pause = Holding::new(Hold::Full(queue.saturating_add(1)));
-    let fed = is_fed(rt, alloc, asked, (1, queue), &pause, wanted)?;
-    Ok((fed, pause.held()))
-}
-
-/// With one worker no more jobs wait than the queue holds, and no fewer.
 #[test]
-fn jobs_wait_in_the_queue_alone(rt: HostRuntime) -> Result<(), AllocError> {
-    for (asked, queue, wanted) in QUEUED {
-        let filled = fills(&rt, rt.alloc(), asked, *queue, wanted)?;
-        assert_eq!(rt; filled, (true, true), "with a queue of {queue}");
-    }
-    Ok(())
+fn feeds_are_answered_and_wait_in_the_queue_alone(rt: HostRuntime) {
+    assert_runs(&rt, rt.alloc(), RUNS);
 }

@@ -9,7 +9,7 @@ const MOST_TURNS: u64 = 1_000_000;
 const LATE_TURNS: u64 = 200_000;
 
 /// Which calls hold, and until when.
-#[derive(Drop)]
+#[derive(Clone, Copy)]
 pub(crate) enum Hold {
     /// For rack 1, request 0 until request 1 was answered, and request 1 until request 0 was begun.
     Crossed,
@@ -17,18 +17,18 @@ pub(crate) enum Hold {
     Gathered(u64),
     /// The first request for long.
     Late,
-    /// The feeder of each other feed ahead of its order until that of this feed has passed its first.
-    First(usize),
+    /// The feeder of each other feed ahead of its order until that of this feed has passed its first. Orders are passed so often in all, one
+    /// whose draw is refused counted too.
+    First(usize, u64),
     /// The worker in the first request until the feeder has passed the order at this position, which is the first that a full queue has
     /// no room for, and a thousand turns more.
     Full(usize),
 }
 
 /// A pause that holds, and what it found.
-#[derive(Drop)]
 pub(crate) struct Holding {
     hold: Hold,
-    /// How many requests were begun that others wait for; of `First`, how often it was called after an order; of `Full`, how many orders
+    /// How many requests were begun that others wait for; of `First`, how often an order was passed; of `Full`, how many orders
     /// came to the feeder after the one that has to wait.
     begun: AtomicU64,
     /// How often that came for which a call was held.
@@ -37,6 +37,18 @@ pub(crate) struct Holding {
     missed: AtomicBool,
     /// Of `Full`, whether an order came to the feeder before the worker went on.
     early: AtomicBool,
+}
+
+impl Drop for Holding {
+    fn drop(self) {
+        let Holding {
+            hold: _,
+            begun: _,
+            come: _,
+            missed: _,
+            early: _,
+        } = self;
+    }
 }
 
 impl Holding {
@@ -61,14 +73,13 @@ impl Holding {
         self.missed.store(true, Ordering::SeqCst);
     }
 
-    /// Whether no call was held in vain, and none came early.
+    /// Whether no call was held in vain, none came early, and orders were passed as often as they must be.
     pub(crate) fn held(&self) -> bool {
-        !self.missed.load(Ordering::SeqCst) && !self.early.load(Ordering::SeqCst)
-    }
-
-    /// How often a `First` was called after an order.
-    pub(crate) fn passed(&self) -> u64 {
-        self.begun.load(Ordering::SeqCst)
+        let passed = match self.hold {
+            Hold::First(_, passed) => self.begun.load(Ordering::SeqCst) == passed,
+            _ => true,
+        };
+        passed && !self.missed.load(Ordering::SeqCst) && !self.early.load(Ordering::SeqCst)
     }
 }
 
@@ -113,7 +124,7 @@ impl Pause for Holding {
 
     fn ahead(&self, _rack: usize, feed: usize, position: usize) {
         match &self.hold {
-            Hold::First(first) if feed != *first => self.wait(&self.come, 1),
+            Hold::First(first, _) if feed != *first => self.wait(&self.come, 1),
             Hold::Full(waiting) if position > *waiting => add_one(&self.begun),
             _ => {}
         }
@@ -121,7 +132,7 @@ impl Pause for Holding {
 
     fn behind(&self, _rack: usize, feed: usize, position: usize) {
         match &self.hold {
-            Hold::First(first) => {
+            Hold::First(first, _) => {
                 add_one(&self.begun);
                 if feed == *first {
                     add_one(&self.come);

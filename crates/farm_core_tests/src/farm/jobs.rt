@@ -1,14 +1,13 @@
 //! A feeder and two workers in one thread, over lanes that hold all that they put.
-ghost use Rattle.std.specs.Prelude.{IfOk};
 ghost use Rattle.farm_lanes.specs.LaneEnds.{IsUnusedPut, IsUnusedTake};
 
+use crate::farm::asserting::assert_holds;
 use crate::farm::requests::{Entry, GLOBAL, LOCAL, SEVERAL, STRIPES, list_of, shown};
 use farm_core::{Fed, Job, NoPause, RackList, Reply, ReplyResult, Worked, feed, work};
-use farm_lanes::{Gate, GateError, Item, Lane, LaneError, PutEnd, TakeEnd};
-use std::alloc::{AllocError, Global};
+use farm_lanes::{Gate, Item, Lane, PutEnd, TakeEnd};
+use std::alloc::Global;
 use std::process::Abort;
 use std::sync::Wait;
-use std::test::Fail;
 
 /// A lane for eight items, with two ends of each kind.
 #[derive(Drop)]
@@ -19,22 +18,20 @@ struct TwoToTwo<T: Drop> {
     other: TakeEnd<T>,
 }
 
-fn two_to_two<T: Send + Drop>(alloc: Global) -> Result<TwoToTwo<T>, LaneError>
-    ensures { IfOk result (λ r. IsUnusedPut r.first × IsUnusedPut r.second × IsUnusedTake r.taker × IsUnusedTake r.other) }
+fn two_to_two<T: Send + Drop>(rt: &impl Abort, alloc: Global) -> TwoToTwo<T>
+    ensures { IsUnusedPut result.first × IsUnusedPut result.second × IsUnusedTake result.taker × IsUnusedTake result.other }
 {
-    let (mut puts, mut takes) = Lane::open(alloc, 8, 2, 2)?;
-    let (Some(second), Some(first)) = (puts.pop(), puts.pop()) else {
-        unreachable!();
-    };
-    let (Some(other), Some(taker)) = (takes.pop(), takes.pop()) else {
-        unreachable!();
-    };
-    Ok(TwoToTwo {
+    let (mut puts, mut takes) = Lane::open(alloc, 8, 2, 2).expect(rt, "a lane");
+    let second = puts.pop().expect(rt, "a put end");
+    let first = puts.pop().expect(rt, "a put end");
+    let other = takes.pop().expect(rt, "a take end");
+    let taker = takes.pop().expect(rt, "a take end");
+    TwoToTwo {
         first,
         second,
         taker,
         other,
-    })
+    }
 }
 
 /// Works until a stop: how many items are taken, and how many put.
@@ -54,18 +51,17 @@ fn works<'a, R: Wait>(
 type Left = ((usize, usize), Option<u64>, u64, bool);
 
 /// Feeds this list through a gate of its own.
-fn feed_alone<'a, R: Wait>(
+fn feed_alone<'a, R: Abort + Wait>(
     rt: &R,
     alloc: Global,
     list: &'a RackList,
     jobs: PutEnd<Job<'a>>,
-) -> Result<Left, GateError>
+) -> Left
     requires { IsUnusedPut jobs }
 {
-    let (gate, mut seats, mut rights) = Gate::open(alloc, 1, 1)?;
-    let (Some(seat), Some(right)) = (seats.pop(), rights.pop()) else {
-        unreachable!();
-    };
+    let (gate, mut seats, mut rights) = Gate::open(alloc, 1, 1).expect(rt, "a gate");
+    let seat = seats.pop().expect(rt, "a seat");
+    let right = rights.pop().expect(rt, "a right");
     let Fed {
         rack,
         feed,
@@ -75,7 +71,7 @@ fn feed_alone<'a, R: Wait>(
         close,
         jobs,
     } = feed(rt, &gate, seat, right, 0, 0, list, jobs, &NoPause);
-    Ok(((rack, feed), close, jobs.count(), right.is_some()))
+    ((rack, feed), close, jobs.count(), right.is_some())
 }
 
 fn stops_both<'a>(rt: &impl Wait, mut jobs: PutEnd<Job<'a>>)
@@ -108,13 +104,13 @@ fn next<'a, R: Wait>(rt: &R, replies: &mut TakeEnd<Reply<'a>>) -> Option<(u64, u
 /// What the feeder leaves, how many items each worker takes and puts, and the first three items of the replies.
 type Done = (Left, [(u64, u64); 2], [Option<(u64, u16)>; 3]);
 
-fn work_by_two<'a, R: Wait>(
+fn work_by_two<'a, R: Abort + Wait>(
     rt: &R,
     alloc: Global,
     list: &'a RackList,
     jobs: TwoToTwo<Job<'a>>,
     replies: TwoToTwo<Reply<'a>>,
-) -> Result<Done, GateError>
+) -> Done
     requires jobs { IsUnusedPut jobs.first × IsUnusedPut jobs.second × IsUnusedTake jobs.taker × IsUnusedTake jobs.other }
     requires replies { IsUnusedPut replies.first × IsUnusedPut replies.second }
 {
@@ -125,66 +121,84 @@ fn work_by_two<'a, R: Wait>(
         works(rt, alloc, jobs.other, replies.second),
     ];
     let mut taker = replies.taker;
-    let left = left?;
     let first = next(rt, &mut taker);
     let second = next(rt, &mut taker);
-    Ok((left, counts, [first, second, next(rt, &mut taker)]))
+    (left, counts, [first, second, next(rt, &mut taker)])
 }
 
 /// What a feeder of these and two workers do: the feeder's jobs are followed by its end mark, and those by a stop for each worker.
-fn works_on<R: Abort + Wait>(rt: &R, alloc: Global, entries: &[Entry]) -> Result<Done, Fail> {
-    let list = list_of(rt, alloc, entries)?;
-    let jobs = two_to_two(alloc)?;
-    let replies = two_to_two(alloc)?;
-    match work_by_two(rt, alloc, &list, jobs, replies) {
-        Ok(worked) => Ok(worked),
-        Err(_) => Err(Fail::from(AllocError)),
-    }
+fn works_on<R: Abort + Wait>(rt: &R, alloc: Global, entries: &[Entry]) -> Done {
+    let list = list_of(rt, alloc, entries);
+    let jobs = two_to_two(rt, alloc);
+    let replies = two_to_two(rt, alloc);
+    work_by_two(rt, alloc, &list, jobs, replies)
 }
 
-/// The gate is closed at 2, the first worker replies to both requests and the second to none.
-#[test]
-fn a_feeder_and_two_workers_answer_up_to_the_close(rt: HostRuntime) -> Result<(), Fail> {
-    let entries = [SEVERAL, LOCAL, Entry::Close, GLOBAL];
-    assert_eq!(rt;
-        works_on(&rt, rt.alloc(), &entries)?,
-        (
-            ((0, 0), Some(2), 3, false),
-            [(4, 3), (1, 1)],
-            [Some((0, STRIPES)), Some((1, 0x01)), None]
-        )
-    );
-    Ok(())
-}
+/// Entries of a list, and what comes of them: what `Done` has.
+type Row = (
+    &'static [Entry],
+    Left,
+    &'static [(u64, u64)],
+    &'static [Option<(u64, u16)>],
+);
 
-/// Asserts that the first worker takes and puts so many items and that these are the replies, or says that one of them starved.
-fn answers_each<R: Abort + Wait>(
-    rt: &R,
-    alloc: Global,
-    entries: &[Entry],
-    counts: (u64, u64),
-    wanted: [Option<(u64, u16)>; 3],
-) -> Result<(), Fail> {
-    let (_, [first, _], replies) = works_on(rt, alloc, entries)?;
+/// Whether one of the replies says that memory was refused.
+fn is_starved(replies: &[Option<(u64, u16)>; 3]) -> bool {
     for reply in replies {
         if matches!(reply, Some((_, STARVED))) {
-            return Err(Fail::from("starved"));
+            return true;
         }
     }
-    assert_eq!(rt; (first, replies), (counts, wanted));
-    Ok(())
+    false
+}
+
+/// The first list's gate is closed at 2, the first worker replies to both requests and the second to none. Without a close the feeder puts
+/// its jobs and its end mark, and keeps its right. The first worker takes these and a stop, and puts its replies and its end mark; the
+/// second takes a stop alone.
+const ROWS: &[Row] = &[
+    (
+        &[SEVERAL, LOCAL, Entry::Close, GLOBAL],
+        ((0, 0), Some(2), 3, false),
+        &[(4, 3), (1, 1)],
+        &[Some((0, STRIPES)), Some((1, 0x01)), None],
+    ),
+    (
+        &[LOCAL],
+        ((0, 0), None, 2, true),
+        &[(3, 2), (1, 1)],
+        &[Some((0, 0x01)), None, None],
+    ),
+    (
+        &[LOCAL, LOCAL],
+        ((0, 0), None, 3, true),
+        &[(4, 3), (1, 1)],
+        &[Some((0, 0x01)), Some((1, 0x01)), None],
+    ),
+];
+
+/// Asserts that a feeder and two workers do what this row says, or says that a reply starved.
+fn assert_done<R: Abort + Wait>(rt: &R, alloc: Global, row: usize) {
+    let (entries, left, counts, replies) = ROWS.get(row).expect(rt, "a row");
+    let done = works_on(rt, alloc, entries);
+    assert_holds(rt, !is_starved(&done.2), "a worker", "starved");
+    assert_holds(rt, done.0 == *left, "a feeder", "it leaves something else");
+    assert_holds(rt, done.1.as_slice() == *counts, "two workers", "other counts");
+    assert_holds(rt, done.2.as_slice() == *replies, "two workers", "other replies");
+}
+
+#[test]
+fn a_feeder_and_two_workers_answer_up_to_the_close(rt: HostRuntime) {
+    assert_done(&rt, rt.alloc(), 0);
 }
 
 /// Where a script refuses the memory of the plan's arena or that of the answer, the reply says so.
 #[test]
-fn a_worker_without_memory_says_so(rt: HostRuntime) -> Result<(), Fail> {
-    let wanted = [Some((0, 0x01)), None, None];
-    answers_each(&rt, rt.alloc(), &[LOCAL], (3, 2), wanted)
+fn a_worker_without_memory_says_so(rt: HostRuntime) {
+    assert_done(&rt, rt.alloc(), 1);
 }
 
 /// Each job has an arena of its own, so twice as many refusals starve one of two jobs.
 #[test]
-fn each_job_has_an_arena_of_its_own(rt: HostRuntime) -> Result<(), Fail> {
-    let wanted = [Some((0, 0x01)), Some((1, 0x01)), None];
-    answers_each(&rt, rt.alloc(), &[LOCAL, LOCAL], (4, 3), wanted)
+fn each_job_has_an_arena_of_its_own(rt: HostRuntime) {
+    assert_done(&rt, rt.alloc(), 2);
 }

@@ -1,195 +1,203 @@
 //! Limits, each by its last accepted value and its first refused one.
+use crate::farm::asserting::assert_holds;
 use farm_core::{
-    Feeds, FeedsFault, Order, RackList, Racks, Settings, SettingsFault, TooManyOrders, TooManyRacks,
+    Feeds, FeedsFault, Order, RackList, Racks, Settings, SettingsFault, TooManyOrders,
+    TooManyRacks, limits,
 };
-use std::alloc::{AllocError, Global};
+use std::alloc::Global;
 use std::process::Abort;
 
-fn closes(alloc: Global, count: usize) -> Result<Vec<Order>, AllocError> {
+/// What is tried, and what has to come of it.
+enum Limit {
+    /// A limit is this number.
+    Is(usize, usize),
+    /// A list of so many orders is accepted, or not.
+    Orders(usize, bool),
+    /// So many racks are accepted, or not.
+    Racks(usize, bool),
+    /// So many racks of so many feeds, of which the last has another number of them, and what refuses them: that racks are too many, or not.
+    /// The number of racks is tested before that of their feeds.
+    Feeds(usize, usize, usize, Option<bool>),
+    /// So many workers and a queue of so many jobs, and what refuses them.
+    Settings(usize, usize, Option<SettingsFault>),
+    /// What a fault of settings says.
+    Says(SettingsFault, &'static str),
+}
+
+fn closes(rt: &impl Abort, alloc: Global, count: usize) -> Vec<Order> {
     let mut orders = Vec::new(alloc);
     for _ in 0..count {
-        orders.push(Order::Close)?;
+        orders.push(Order::Close).expect(rt, "orders");
     }
-    Ok(orders)
+    orders
 }
 
-fn empty_lists(rt: &impl Abort, alloc: Global, count: usize) -> Result<Vec<RackList>, AllocError> {
+fn empty_lists(rt: &impl Abort, alloc: Global, count: usize) -> Vec<RackList> {
     let mut lists = Vec::new(alloc);
     for _ in 0..count {
-        let Ok(list) = RackList::new(Vec::new(alloc)) else {
-            panic!(rt; "an empty list was refused");
-        };
-        lists.push(list)?;
+        let list = RackList::new(Vec::new(alloc)).expect(rt, "a list");
+        lists.push(list).expect(rt, "lists");
     }
-    Ok(lists)
+    lists
 }
 
-/// Of a list of so many orders their number, how many it serves and how many orders come back; or how many are handed back.
-type ListSizes = Result<(usize, usize, usize), usize>;
-
-fn list_sizes(alloc: Global, count: usize) -> Result<ListSizes, AllocError> {
-    match RackList::new(closes(alloc, count)?) {
-        Ok(list) => {
-            let sizes = (list.orders().len(), list.served());
-            Ok(Ok((sizes.0, sizes.1, list.into_orders().len())))
-        }
-        Err(TooManyOrders { orders }) => Ok(Err(orders.len())),
-    }
-}
-
-#[test]
-fn a_list_has_at_most_4096_orders(rt: HostRuntime) -> Result<(), AllocError> {
-    let sizes = [list_sizes(rt.alloc(), 4096)?, list_sizes(rt.alloc(), 4097)?];
-    assert_eq!(rt; sizes, [Ok((4096, 0, 4096)), Err(4097)]);
-    Ok(())
-}
-
-/// How many racks a run has, or how many are handed back.
-fn rack_count(
-    rt: &impl Abort,
-    alloc: Global,
-    count: usize,
-) -> Result<Result<usize, usize>, AllocError> {
-    match Racks::new(empty_lists(rt, alloc, count)?) {
-        Ok(racks) => Ok(Ok(racks.lists().len())),
-        Err(TooManyRacks { lists }) => Ok(Err(lists.len())),
-    }
-}
-
-#[test]
-fn a_run_has_at_most_16_racks(rt: HostRuntime) -> Result<(), AllocError> {
-    let counts = [
-        rack_count(&rt, rt.alloc(), 16)?,
-        rack_count(&rt, rt.alloc(), 17)?,
-    ];
-    assert_eq!(rt; counts, [Ok(16), Err(17)]);
-    Ok(())
-}
-
-/// So many racks of so many feeds, of which the last has another number of them.
 fn feeds(
     rt: &impl Abort,
     alloc: Global,
     racks: usize,
     each: usize,
     last: usize,
-) -> Result<Vec<Vec<RackList>>, AllocError> {
+) -> Vec<Vec<RackList>> {
     let mut all = Vec::new(alloc);
     for rack in 1..=racks {
         let count = if rack == racks { last } else { each };
-        all.push(empty_lists(rt, alloc, count)?)?;
+        all.push(empty_lists(rt, alloc, count)).expect(rt, "racks");
     }
-    Ok(all)
+    all
 }
 
-/// How many racks came back, and how many feeds of the last of them.
-fn sizes(racks: &[Vec<RackList>]) -> (usize, usize) {
-    match racks.last() {
-        Some(last) => (racks.len(), last.len()),
-        None => (0, 0),
-    }
-}
-
-/// A number of racks, and of feeds of the last of them.
-type Sizes = (usize, usize);
-
-/// The sizes of a run's racks, as they are seen and as they come back; or whether racks are too many, and not their feeds bad, and the
-/// sizes of those that are handed back.
-type FeedSizes = Result<[Sizes; 2], (bool, Sizes)>;
-
-fn feed_sizes(
-    rt: &impl Abort,
-    alloc: Global,
-    racks: usize,
-    each: usize,
-    last: usize,
-) -> Result<FeedSizes, AllocError> {
-    match Feeds::new(feeds(rt, alloc, racks, each, last)?) {
-        Ok(accepted) => {
-            let seen = sizes(accepted.racks());
-            Ok(Ok([seen, sizes(accepted.into_racks().as_slice())]))
+/// Whether so many closes are accepted as a list that serves nothing and gives them back, or handed back.
+fn are_orders(orders: Vec<Order>, count: usize, accepted: bool) -> bool {
+    match RackList::new(orders) {
+        Ok(list) => {
+            let holds = accepted && list.orders().len() == count && list.served() == 0;
+            list.into_orders().len() == count && holds
         }
-        Err(FeedsFault::TooManyRacks { racks }) => Ok(Err((true, sizes(racks.as_slice())))),
-        Err(FeedsFault::BadFeeds { racks }) => Ok(Err((false, sizes(racks.as_slice())))),
+        Err(TooManyOrders { orders }) => !accepted && orders.len() == count,
     }
 }
 
-/// Numbers of racks, of feeds of each, and of feeds of the last, and what refuses them: that racks are too many, or not.
-const FEEDS: &[(usize, usize, usize, Option<bool>)] = &[
-    (0, 0, 0, None),
-    (1, 1, 1, None),
-    (1, 4, 4, None),
-    (16, 1, 4, None),
-    (16, 4, 4, None),
-    (1, 4, 0, Some(false)),
-    (2, 4, 0, Some(false)),
-    (16, 4, 0, Some(false)),
-    (1, 4, 5, Some(false)),
-    (2, 4, 5, Some(false)),
-    (16, 4, 5, Some(false)),
-    (17, 4, 0, Some(true)),
-    (17, 4, 1, Some(true)),
-    (17, 4, 4, Some(true)),
-    (17, 4, 5, Some(true)),
-];
-
-/// The number of racks is tested before that of their feeds.
-#[test]
-fn racks_have_one_to_four_feeds(rt: HostRuntime) -> Result<(), AllocError> {
-    for (racks, each, last, refused) in FEEDS {
-        let sizes = (*racks, *last);
-        let wanted = match refused {
-            None => Ok([sizes, sizes]),
-            Some(too_many) => Err((*too_many, sizes)),
-        };
-        let found = feed_sizes(&rt, rt.alloc(), *racks, *each, *last)?;
-        assert_eq!(rt; found, wanted, "{racks} racks, of {each} feeds each");
-    }
-    Ok(())
-}
-
-/// Numbers of workers and of jobs in the queue, and what refuses them.
-const SETTINGS: &[(usize, usize, Option<SettingsFault>)] = &[
-    (16, 1024, None),
-    (1, 1, None),
-    (0, 0, Some(SettingsFault::BadWorkers)),
-    (17, 1, Some(SettingsFault::BadWorkers)),
-    (1, 0, Some(SettingsFault::BadQueue)),
-    (1, 1025, Some(SettingsFault::BadQueue)),
-];
-
-#[test]
-fn settings_are_refused_beyond_their_limits(rt: HostRuntime) {
-    for (workers, queue, refused) in SETTINGS {
-        let found = match Settings::new(*workers, *queue) {
-            Ok(settings) => Ok((settings.workers(), settings.queue())),
-            Err(fault) => Err(fault),
-        };
-        let wanted = match refused {
-            None => Ok((*workers, *queue)),
-            Some(fault) => Err(*fault),
-        };
-        assert_eq!(rt; found, wanted);
+/// Whether so many racks are accepted, or handed back.
+fn are_racks(lists: Vec<RackList>, count: usize, accepted: bool) -> bool {
+    match Racks::new(lists) {
+        Ok(racks) => accepted && racks.lists().len() == count,
+        Err(TooManyRacks { lists }) => !accepted && lists.len() == count,
     }
 }
 
-/// What the faults of settings say.
-const TEXTS: &[(SettingsFault, &str)] = &[
+/// Whether there are so many racks, and so many feeds of the last of them.
+fn are_sizes(racks: &[Vec<RackList>], count: usize, feeds: usize) -> bool {
+    match racks.last() {
+        Some(last) => racks.len() == count && last.len() == feeds,
+        None => count == 0,
+    }
+}
+
+/// Whether racks of feeds are accepted, and seen and given back as they are; or handed back as they are, since they are too many or not.
+fn are_feeds(
+    racks: Vec<Vec<RackList>>,
+    count: usize,
+    last: usize,
+    refused: Option<bool>,
+) -> bool {
+    match Feeds::new(racks) {
+        Ok(feeds) => {
+            let seen = are_sizes(feeds.racks(), count, last);
+            let back = feeds.into_racks();
+            refused.is_none() && seen && are_sizes(back.as_slice(), count, last)
+        }
+        Err(FeedsFault::TooManyRacks { racks }) => {
+            refused == Some(true) && are_sizes(racks.as_slice(), count, last)
+        }
+        Err(FeedsFault::BadFeeds { racks }) => {
+            refused == Some(false) && are_sizes(racks.as_slice(), count, last)
+        }
+    }
+}
+
+/// Whether so many workers and a queue of so many jobs are accepted, or refused for this.
+fn are_settings(workers: usize, queue: usize, refused: Option<SettingsFault>) -> bool {
+    match Settings::new(workers, queue) {
+        Ok(settings) => {
+            refused.is_none() && settings.workers() == workers && settings.queue() == queue
+        }
+        Err(fault) => refused == Some(fault),
+    }
+}
+
+/// Whether that comes of it that must.
+fn is_limit(rt: &impl Abort, alloc: Global, limit: &Limit) -> bool {
+    match limit {
+        Limit::Is(limit, wanted) => limit == wanted,
+        Limit::Orders(count, accepted) => {
+            are_orders(closes(rt, alloc, *count), *count, *accepted)
+        }
+        Limit::Racks(count, accepted) => {
+            are_racks(empty_lists(rt, alloc, *count), *count, *accepted)
+        }
+        Limit::Feeds(racks, each, last, refused) => {
+            are_feeds(feeds(rt, alloc, *racks, *each, *last), *racks, *last, *refused)
+        }
+        Limit::Settings(workers, queue, refused) => are_settings(*workers, *queue, *refused),
+        Limit::Says(fault, text) => says(rt, alloc, *fault, text),
+    }
+}
+
+fn says(rt: &impl Abort, alloc: Global, fault: SettingsFault, text: &str) -> bool {
+    let said = format!(in alloc; "{fault}").expect(rt, "a text");
+    said.as_str() == text
+}
+
+const LIMITS: &[(&str, Limit)] = &[
+    ("the most orders", Limit::Is(limits::MOST_ORDERS, 4096)),
+    ("the most racks", Limit::Is(limits::MOST_RACKS, 16)),
+    ("the most feeds", Limit::Is(limits::MOST_FEEDS, 4)),
+    ("the most workers", Limit::Is(limits::MOST_WORKERS, 16)),
+    ("the greatest queue", Limit::Is(limits::MOST_QUEUE, 1024)),
+    ("4096 orders", Limit::Orders(4096, true)),
+    ("4097 orders", Limit::Orders(4097, false)),
+    ("16 racks", Limit::Racks(16, true)),
+    ("17 racks", Limit::Racks(17, false)),
+    ("no racks", Limit::Feeds(0, 0, 0, None)),
+    ("1 rack of 1 feed", Limit::Feeds(1, 1, 1, None)),
+    ("1 of 4", Limit::Feeds(1, 4, 4, None)),
+    ("15 of 1 and 1 of 4", Limit::Feeds(16, 1, 4, None)),
+    ("16 of 4", Limit::Feeds(16, 4, 4, None)),
+    ("1 of none", Limit::Feeds(1, 4, 0, Some(false))),
+    ("1 of 4 and 1 of none", Limit::Feeds(2, 4, 0, Some(false))),
+    ("15 of 4 and 1 of none", Limit::Feeds(16, 4, 0, Some(false))),
+    ("1 of 5", Limit::Feeds(1, 4, 5, Some(false))),
+    ("1 of 4 and 1 of 5", Limit::Feeds(2, 4, 5, Some(false))),
+    ("15 of 4 and 1 of 5", Limit::Feeds(16, 4, 5, Some(false))),
+    ("16 of 4 and 1 of none", Limit::Feeds(17, 4, 0, Some(true))),
+    ("16 of 4 and 1 of 1", Limit::Feeds(17, 4, 1, Some(true))),
+    ("17 of 4", Limit::Feeds(17, 4, 4, Some(true))),
+    ("16 of 4 and 1 of 5", Limit::Feeds(17, 4, 5, Some(true))),
+    ("16 workers, 1024 jobs", Limit::Settings(16, 1024, None)),
+    ("1 worker, 1 job", Limit::Settings(1, 1, None)),
     (
-        SettingsFault::BadWorkers,
-        "the number of workers is not 1 to 16",
+        "no worker, no job",
+        Limit::Settings(0, 0, Some(SettingsFault::BadWorkers)),
     ),
-    (SettingsFault::BadQueue, "the queue is not 1 to 1024"),
+    (
+        "17 workers",
+        Limit::Settings(17, 1, Some(SettingsFault::BadWorkers)),
+    ),
+    (
+        "no job",
+        Limit::Settings(1, 0, Some(SettingsFault::BadQueue)),
+    ),
+    (
+        "1025 jobs",
+        Limit::Settings(1, 1025, Some(SettingsFault::BadQueue)),
+    ),
+    (
+        "what is said of workers",
+        Limit::Says(
+            SettingsFault::BadWorkers,
+            "the number of workers is not 1 to 16",
+        ),
+    ),
+    (
+        "what is said of the queue",
+        Limit::Says(SettingsFault::BadQueue, "the queue is not 1 to 1024"),
+    ),
 ];
 
 #[test]
-fn faults_of_settings_say_their_limits(rt: HostRuntime) -> Result<(), AllocError> {
-    for (fault, text) in TEXTS {
-        let same = {
-            let said = format!(in rt.alloc(); "{fault}")?;
-            said.as_str() == *text
-        };
-        assert!(rt; same, "not {text}");
+fn limits_are_kept_and_said(rt: HostRuntime) {
+    for (name, limit) in LIMITS {
+        let is = is_limit(&rt, rt.alloc(), limit);
+        assert_holds(&rt, is, name, "it is another limit");
     }
-    Ok(())
 }

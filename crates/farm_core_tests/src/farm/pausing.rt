@@ -1,28 +1,36 @@
 //! What a run gives its pause: the racks, feeds, positions and numbers of all calls.
-use crate::farm::feeding::{ByFeed, is_fed};
-use crate::farm::requests::{Entry, GLOBAL, LOCAL, SEVERAL, STRIPES};
-use crate::farm::running::is_answered;
+use crate::farm::asserting::assert_holds;
+use crate::farm::requests::{GLOBAL, LOCAL, SEVERAL, STRIPES};
+use crate::farm::running::{Asked, is_answered};
 use farm_core::Pause;
-use std::alloc::{AllocError, Global};
+use std::alloc::Global;
+use std::process::Abort;
+use std::sync::Wait;
 use std::sync::atomic::{AtomicU64, Ordering};
+use std::thread::Threads;
 
 /// Counts the calls: for each of three racks those before its requests, and as many places on those after them; for each of seven feeds
 /// those ahead of its orders and those behind them. The eighth place of each is for a request or an order that isn't there.
-#[derive(Drop)]
 struct Calls {
     counts: Vec<AtomicU64>,
+}
+
+impl Drop for Calls {
+    fn drop(self) {
+        let Calls { counts: _ } = self;
+    }
 }
 
 /// The place of what isn't there.
 const STRANGE: usize = 7;
 
 impl Calls {
-    fn new(alloc: Global) -> Result<Calls, AllocError> {
+    fn new(rt: &impl Abort, alloc: Global) -> Calls {
         let mut counts = Vec::new(alloc);
         for _ in 0..32 {
-            counts.push(AtomicU64::new(0))?;
+            counts.push(AtomicU64::new(0)).expect(rt, "a count");
         }
-        Ok(Calls { counts })
+        Calls { counts }
     }
 
     /// Whether there were so many calls for the requests of each rack and for the orders of each feed.
@@ -43,7 +51,7 @@ impl Calls {
     }
 }
 
-/// The rack of a request of `SEVEN_FEEDS`, by its number within the rack.
+/// The rack of a request of the first run, by its number within the rack.
 fn rack_of(rack: usize, number: u64) -> usize {
     match (rack, number) {
         (0, 0) | (1, 0..=2) | (2, 0..=3) => rack,
@@ -51,7 +59,7 @@ fn rack_of(rack: usize, number: u64) -> usize {
     }
 }
 
-/// Which of `SEVEN_FEEDS` an order is of, by its position within the feed.
+/// Which of the first run's feeds an order is of, by its position within the feed.
 fn feed_of(rack: usize, feed: usize, position: usize) -> usize {
     match (rack, feed, position) {
         (0, 0, 0) => 0,
@@ -82,46 +90,56 @@ impl Pause for Calls {
     }
 }
 
-const SEVEN_FEEDS: &[&[&[Entry]]] = &[
-    &[&[LOCAL]],
-    &[&[GLOBAL], &[LOCAL, SEVERAL]],
-    &[&[], &[LOCAL], &[LOCAL], &[GLOBAL, LOCAL]],
-];
-
-const ANSWERS_OF_SEVEN_FEEDS: &[ByFeed] = &[
-    (0, &[&[0x01]]),
-    (1, &[&[0x6e], &[0x01, STRIPES]]),
-    (2, &[&[], &[0x01], &[0x01], &[0x6e, 0x01]]),
-];
-
-/// Racks of one, two and four feeds.
-#[test]
-fn each_order_of_seven_feeds_is_given_once(rt: HostRuntime) -> Result<(), AllocError> {
-    let found = {
-        let calls = Calls::new(rt.alloc())?;
-        let answers = ANSWERS_OF_SEVEN_FEEDS;
-        let fed = is_fed(&rt, rt.alloc(), SEVEN_FEEDS, (3, 1), &calls, answers)?;
-        let given = calls.are(&[1, 3, 4, 0, 0, 0, 0, 0], &[1, 1, 2, 0, 1, 1, 2, 0]);
-        (fed, given)
-    };
-    assert_eq!(rt; found, (true, true));
-    Ok(())
+/// A run whose pause counts.
+struct Counted {
+    name: &'static str,
+    asked: Asked,
+    settings: (usize, usize),
+    /// How many calls there are for the requests of each rack, and for the orders of each feed.
+    requests: [u64; 8],
+    orders: [u64; 8],
 }
 
-const TWO_LISTS: &[&[Entry]] = &[&[LOCAL], &[GLOBAL]];
+const RUNS: &[Counted] = &[
+    Counted {
+        name: "racks of one, two and four feeds",
+        asked: Asked::Feeds(
+            &[
+                &[&[LOCAL]],
+                &[&[GLOBAL], &[LOCAL, SEVERAL]],
+                &[&[], &[LOCAL], &[LOCAL], &[GLOBAL, LOCAL]],
+            ],
+            &[
+                (0, &[&[0x01]]),
+                (1, &[&[0x6e], &[0x01, STRIPES]]),
+                (2, &[&[], &[0x01], &[0x01], &[0x6e, 0x01]]),
+            ],
+        ),
+        settings: (3, 1),
+        requests: [1, 3, 4, 0, 0, 0, 0, 0],
+        orders: [1, 1, 2, 0, 1, 1, 2, 0],
+    },
+    // A list is its rack's feed 0.
+    Counted {
+        name: "racks of one list each",
+        asked: Asked::Lists(&[&[LOCAL], &[GLOBAL]], &[&[0x01], &[0x6e]]),
+        settings: (2, 1),
+        requests: [1, 1, 0, 0, 0, 0, 0, 0],
+        orders: [1, 1, 0, 0, 0, 0, 0, 0],
+    },
+];
 
-const ANSWERS_OF_TWO_LISTS: &[&[u16]] = &[&[0x01], &[0x6e]];
+fn assert_counted<R: Abort + Threads + Wait + Sync>(rt: &R, alloc: Global, run: &Counted) {
+    let calls = Calls::new(rt, alloc);
+    let answered = is_answered(rt, alloc, run.asked, run.settings, &calls);
+    assert_holds(rt, answered, run.name, "other answers");
+    let are = calls.are(&run.requests, &run.orders);
+    assert_holds(rt, are, run.name, "other calls");
+}
 
-/// Racks of one list each: a list is its rack's feed 0.
 #[test]
-fn each_order_of_two_lists_is_given_once(rt: HostRuntime) -> Result<(), AllocError> {
-    let found = {
-        let calls = Calls::new(rt.alloc())?;
-        let answers = ANSWERS_OF_TWO_LISTS;
-        let answered = is_answered(&rt, rt.alloc(), TWO_LISTS, (2, 1), &calls, answers)?;
-        let given = calls.are(&[1, 1, 0, 0, 0, 0, 0, 0], &[1, 1, 0, 0, 0, 0, 0, 0]);
-        (answered, given)
-    };
-    assert_eq!(rt; found, (true, true));
-    Ok(())
+fn each_order_is_given_once(rt: HostRuntime) {
+    for run in RUNS {
+        assert_counted(&rt, rt.alloc(), run);
+    }
 }

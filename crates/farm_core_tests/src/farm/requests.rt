@@ -1,7 +1,7 @@
 //! Requests on one stripe of length 1 (x = 01 02 03, y = 04 05 06, px 00, py 07, p0 04, p1 6E), with their answers.
 use farm_core::{Order, RackList, Racks};
 use lrc_code::{Fragment, Outcome, Place, Request};
-use std::alloc::{AllocError, Global};
+use std::alloc::Global;
 use std::process::Abort;
 
 /// An entry of a list: a lost place and the survivors with their one byte each, or a close.
@@ -49,43 +49,38 @@ pub(crate) const ONE: &[&[Entry]] = &[&[LOCAL, SEVERAL, GLOBAL]];
 /// Its answers, each as `shown` gives it.
 pub(crate) const ANSWERS_OF_ONE: &[&[u16]] = &[&[0x01, STRIPES, 0x6e]];
 
-fn fragments_of(alloc: Global, survivors: &[(Place, u8)]) -> Result<Vec<Fragment>, AllocError> {
+fn fragments_of(rt: &impl Abort, alloc: Global, survivors: &[(Place, u8)]) -> Vec<Fragment> {
     let mut fragments = Vec::new(alloc);
     for (place, byte) in survivors {
-        fragments.push(Fragment {
+        let fragment = Fragment {
             place: *place,
-            bytes: vec![in alloc; *byte]?,
-        })?;
+            bytes: vec![in alloc; *byte].expect(rt, "a fragment"),
+        };
+        fragments.push(fragment).expect(rt, "fragments");
     }
-    Ok(fragments)
+    fragments
 }
 
 /// An order with a request, which is accepted, or a close.
-fn order(rt: &impl Abort, alloc: Global, entry: &Entry) -> Result<Order, AllocError> {
-    let Entry::Lost(target, survivors) = entry else {
-        return Ok(Order::Close);
-    };
-    let fragments = fragments_of(alloc, survivors)?;
-    match Request::new(String::from_str(alloc, "a")?, *target, 1, fragments) {
-        Ok(request) => Ok(Order::Rebuild(request)),
-        Err(_) => panic!(rt; "a request was refused"),
+fn order(rt: &impl Abort, alloc: Global, entry: &Entry) -> Order {
+    match entry {
+        Entry::Lost(target, survivors) => {
+            let stripe = String::from_str(alloc, "a").expect(rt, "a name");
+            let fragments = fragments_of(rt, alloc, survivors);
+            let request = Request::new(stripe, *target, 1, fragments);
+            Order::Rebuild(request.expect(rt, "a request"))
+        }
+        Entry::Close => Order::Close,
     }
 }
 
 /// A list of these entries, in their order.
-pub(crate) fn list_of(
-    rt: &impl Abort,
-    alloc: Global,
-    entries: &[Entry],
-) -> Result<RackList, AllocError> {
+pub(crate) fn list_of(rt: &impl Abort, alloc: Global, entries: &[Entry]) -> RackList {
     let mut orders = Vec::new(alloc);
     for entry in entries {
-        orders.push(order(rt, alloc, entry)?)?;
+        orders.push(order(rt, alloc, entry)).expect(rt, "orders");
     }
-    match RackList::new(orders) {
-        Ok(list) => Ok(list),
-        Err(_) => panic!(rt; "too many orders"),
-    }
+    RackList::new(orders).expect(rt, "a list")
 }
 
 /// How `shown` gives an answer that says that two stripes or more fit.
@@ -129,26 +124,15 @@ pub(crate) fn are_answers(racks: &[Vec<Outcome>], wanted: &[&[u16]]) -> bool {
 }
 
 /// Lists of these entries: of several racks, or of one rack's feeds.
-pub(crate) fn lists_of(
-    rt: &impl Abort,
-    alloc: Global,
-    lists: &[&[Entry]],
-) -> Result<Vec<RackList>, AllocError> {
+pub(crate) fn lists_of(rt: &impl Abort, alloc: Global, lists: &[&[Entry]]) -> Vec<RackList> {
     let mut all = Vec::new(alloc);
     for entries in lists {
-        all.push(list_of(rt, alloc, entries)?)?;
+        all.push(list_of(rt, alloc, entries)).expect(rt, "lists");
     }
-    Ok(all)
+    all
 }
 
 /// Racks with lists of these entries.
-pub(crate) fn racks_of(
-    rt: &impl Abort,
-    alloc: Global,
-    lists: &[&[Entry]],
-) -> Result<Racks, AllocError> {
-    match Racks::new(lists_of(rt, alloc, lists)?) {
-        Ok(racks) => Ok(racks),
-        Err(_) => panic!(rt; "too many racks"),
-    }
+pub(crate) fn racks_of(rt: &impl Abort, alloc: Global, lists: &[&[Entry]]) -> Racks {
+    Racks::new(lists_of(rt, alloc, lists)).expect(rt, "racks")
 }

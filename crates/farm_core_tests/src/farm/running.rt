@@ -1,75 +1,168 @@
-//! Runs of the farm.
+//! Runs of the farm, each a row of a table: what is asked, with what settings, and what has to come of it.
+use crate::farm::asserting::assert_holds;
+use crate::farm::feeding::{ByFeed, are_all_allowed, feeds_of};
+use crate::farm::holding::{Hold, Holding};
 use crate::farm::requests::{
     Entry, GLOBAL, LOCAL, SEVERAL, STRIPES, are_answers, list_of, racks_of,
 };
-use farm_core::{FarmError, NoPause, Pause, Settings, run};
-use std::alloc::{AllocError, Global};
+use farm_core::{NoPause, Pause, RackList, Settings, run, run_feeds};
+use std::alloc::Global;
 use std::process::Abort;
 use std::sync::Wait;
 use std::thread::Threads;
 
-/// So many workers, and a queue of so many jobs.
-pub(crate) fn settings_of(rt: &impl Abort, settings: (usize, usize)) -> Settings {
-    let (workers, queue) = settings;
-    match Settings::new(workers, queue) {
-        Ok(settings) => settings,
-        Err(_) => panic!(rt; "settings out of their limits"),
-    }
+/// What is asked of a run, and what it has to answer.
+#[derive(Clone, Copy)]
+pub(crate) enum Asked {
+    /// Racks of one list each, and the answers of each rack, each as `shown` gives it.
+    Lists(&'static [&'static [Entry]], &'static [&'static [u16]]),
+    /// Racks of several feeds, and the answers that each rack may have.
+    Feeds(&'static [&'static [&'static [Entry]]], &'static [ByFeed]),
 }
 
-/// Whether a run of so many workers, with a queue of so many jobs, answers what these racks ask with these; out of memory if it has none.
+/// A run.
+pub(crate) struct Run {
+    /// What it shows.
+    pub(crate) name: &'static str,
+    pub(crate) asked: Asked,
+    /// How many workers there are, and how many jobs the queue holds.
+    pub(crate) settings: (usize, usize),
+    /// Which calls of the pause hold, if there is one.
+    pub(crate) hold: Option<Hold>,
+    /// How often it is made.
+    pub(crate) times: usize,
+}
+
+/// Whether racks of one list each are answered so.
+fn are_lists_answered<R: Abort + Threads + Wait + Sync, P: Pause>(
+    rt: &R,
+    alloc: Global,
+    lists: &[&[Entry]],
+    settings: Settings,
+    pause: &P,
+    wanted: &[&[u16]],
+) -> bool {
+    let racks = racks_of(rt, alloc, lists);
+    let answers = run(rt, alloc, &racks, settings, pause).expect(rt, "answers");
+    are_answers(answers.as_slice(), wanted)
+}
+
+/// Whether racks of several feeds get answers that are allowed.
+fn are_feeds_answered<R: Abort + Threads + Wait + Sync, P: Pause>(
+    rt: &R,
+    alloc: Global,
+    racks: &[&[&[Entry]]],
+    settings: Settings,
+    pause: &P,
+    allowed: &[ByFeed],
+) -> bool {
+    let feeds = feeds_of(rt, alloc, racks);
+    let answers = run_feeds(rt, alloc, &feeds, settings, pause).expect(rt, "answers");
+    are_all_allowed(racks.len(), answers.as_slice(), allowed)
+}
+
+/// Whether a run gives the answers that it must.
 pub(crate) fn is_answered<R: Abort + Threads + Wait + Sync, P: Pause>(
     rt: &R,
     alloc: Global,
-    asked: &[&[Entry]],
-    settings: (usize, usize),
+    asked: Asked,
+    (workers, queue): (usize, usize),
     pause: &P,
-    wanted: &[&[u16]],
-) -> Result<bool, AllocError> {
-    let settings = settings_of(rt, settings);
-    let racks = racks_of(rt, alloc, asked)?;
-    match run(rt, alloc, &racks, settings, pause) {
-        Ok(answers) => Ok(are_answers(answers.as_slice(), wanted)),
-        Err(FarmError::OutOfMemory | FarmError::NoThread) => Err(AllocError),
+) -> bool {
+    let settings = Settings::new(workers, queue).expect(rt, "settings");
+    match asked {
+        Asked::Lists(lists, wanted) => {
+            are_lists_answered(rt, alloc, lists, settings, pause, wanted)
+        }
+        Asked::Feeds(racks, allowed) => {
+            are_feeds_answered(rt, alloc, racks, settings, pause, allowed)
+        }
     }
 }
 
-const CLOSED: &[&[Entry]] = &[&[LOCAL, SEVERAL, Entry::Close, GLOBAL], &[], &[GLOBAL]];
+/// Asserts that a run with a pause that holds gives the answers that it must, and that no call is held in vain.
+fn assert_held<R: Abort + Threads + Wait + Sync>(rt: &R, alloc: Global, run: &Run, hold: Hold) {
+    let pause = Holding::new(hold);
+    let answered = is_answered(rt, alloc, run.asked, run.settings, &pause);
+    assert_holds(rt, pause.held(), run.name, "a call was held in vain");
+    assert_holds(rt, answered, run.name, "other answers");
+}
 
-const ANSWERS_OF_CLOSED: &[&[u16]] = &[&[0x01, STRIPES], &[], &[0x6e]];
+/// Asserts that each of these runs gives what it must.
+pub(crate) fn assert_runs<R: Abort + Threads + Wait + Sync>(rt: &R, alloc: Global, runs: &[Run]) {
+    for run in runs {
+        for _ in 0..run.times {
+            match run.hold {
+                Some(hold) => assert_held(rt, alloc, run, hold),
+                None => {
+                    let answered = is_answered(rt, alloc, run.asked, run.settings, &NoPause);
+                    assert_holds(rt, answered, run.name, "other answers");
+                }
+            }
+        }
+    }
+}
 
-/// What is asked of how many workers with what queue, and the answers.
-type Case = (
-    &'static [&'static [Entry]],
-    (usize, usize),
-    &'static [&'static [u16]],
+/// A list with a close. Nothing after it is served.
+const WITH_CLOSE: &[Entry] = &[LOCAL, SEVERAL, Entry::Close, GLOBAL];
+
+/// A rack with a close, one without requests and one without a close, and the answers up to the close.
+const CLOSED: Asked = Asked::Lists(
+    &[WITH_CLOSE, &[], &[GLOBAL]],
+    &[&[0x01, STRIPES], &[], &[0x6e]],
 );
 
-/// The first three are answered up to the close; of the others one has no racks, and one a rack without requests.
-const CASES: &[Case] = &[
-    (CLOSED, (1, 1), ANSWERS_OF_CLOSED),
-    (CLOSED, (4, 16), ANSWERS_OF_CLOSED),
-    (CLOSED, (16, 1024), ANSWERS_OF_CLOSED),
-    (&[], (1, 1), &[]),
-    (&[&[]], (1, 1), &[&[]]),
+const RUNS: &[Run] = &[
+    Run {
+        name: "one worker answers up to the close",
+        asked: CLOSED,
+        settings: (1, 1),
+        hold: None,
+        times: 1,
+    },
+    Run {
+        name: "four workers answer up to the close",
+        asked: CLOSED,
+        settings: (4, 16),
+        hold: None,
+        times: 1,
+    },
+    Run {
+        name: "sixteen workers answer up to the close",
+        asked: CLOSED,
+        settings: (16, 1024),
+        hold: None,
+        times: 1,
+    },
+    Run {
+        name: "no racks have no answers",
+        asked: Asked::Lists(&[], &[]),
+        settings: (1, 1),
+        hold: None,
+        times: 1,
+    },
+    Run {
+        name: "a rack without requests has no answers",
+        asked: Asked::Lists(&[&[]], &[&[]]),
+        settings: (1, 1),
+        hold: None,
+        times: 1,
+    },
 ];
 
 #[test]
-fn requests_before_the_close_are_answered(rt: HostRuntime) -> Result<(), AllocError> {
-    for (asked, settings, wanted) in CASES {
-        let answered = is_answered(&rt, rt.alloc(), asked, *settings, &NoPause, wanted)?;
-        assert!(rt; answered, "other answers, with settings {settings:?}");
-    }
-    Ok(())
+fn requests_before_the_close_are_answered(rt: HostRuntime) {
+    assert_runs(&rt, rt.alloc(), RUNS);
 }
 
-/// Nothing after the close is served.
 #[test]
-fn a_list_serves_the_requests_before_its_close(rt: HostRuntime) -> Result<(), AllocError> {
-    let sizes = {
-        let list = list_of(&rt, rt.alloc(), &[LOCAL, SEVERAL, Entry::Close, GLOBAL])?;
-        (list.orders().len(), list.served())
-    };
-    assert_eq!(rt; sizes, (4, 2));
-    Ok(())
+fn a_list_serves_the_requests_before_its_close(rt: HostRuntime) {
+    let list = list_of(&rt, rt.alloc(), WITH_CLOSE);
+    assert_serves(&rt, &list, 4, 2);
+}
+
+/// Asserts that a list has so many orders, and serves so many requests.
+fn assert_serves(rt: &impl Abort, list: &RackList, orders: usize, requests: usize) {
+    assert_holds(rt, list.orders().len() == orders, "a list", "other orders");
+    assert_holds(rt, list.served() == requests, "a list", "other requests");
 }

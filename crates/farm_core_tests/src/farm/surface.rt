@@ -1,6 +1,7 @@
 //! Each name that callers of `farm_core` are promised, at this crate: one that moves, or a variant or a field more, doesn't compile.
-//! The other functions, types and faults are named elsewhere in these tests, each with all its fields or all its variants.
-use farm_core::{Job, Settings, SettingsFault, limits};
+//! The other functions, types, faults and limits are named elsewhere in these tests, each with all its fields or all its variants.
+use crate::farm::asserting::assert_holds;
+use farm_core::{Job, SettingsFault};
 use lrc_code::Request;
 
 /// The slot, the number and the request of a job that isn't to stop.
@@ -23,14 +24,9 @@ fn number_of_setting(fault: SettingsFault) -> u8 {
 }
 
 #[test]
-fn limits_have_their_numbers(rt: HostRuntime) {
-    let orders = (limits::MOST_ORDERS, limits::MOST_RACKS, limits::MOST_FEEDS);
-    let settings = (limits::MOST_WORKERS, limits::MOST_QUEUE);
+fn a_stop_and_a_fault_are_at_this_crate(rt: HostRuntime) {
     let stops = parts_of_job(Job::Stop).is_none();
-    let refused = Settings::new(0, 0).err().map(number_of_setting);
-    assert_eq!(rt; refused, Some(11));
-    assert_eq!(rt;
-        (orders, settings, stops),
-        ((4096, 16, 4), (16, 1024), true)
-    );
+    assert_holds(&rt, stops, "a stop", "it is no stop");
+    let fault = number_of_setting(SettingsFault::BadWorkers);
+    assert_holds(&rt, fault == 11, "no workers", "another fault");
 }

@@ -3,4 +3,4 @@ use Rattle.farm_core.specs.Replies.{IsInPlace}
 use Rattle.farm_core_tests.proofs.farm.collecting.gathered.Given as goal
 
 abbrev pub invariant-loop-number : goal.invariant-loop-number
-invariant-loop-number l = IsInPlace l.collector × (l.collector.racks ≡ l.racks)
+invariant-loop-number g l = IsInPlace l.collector × (l.collector.racks ≡ l.racks)
