@@ -15,6 +15,7 @@ import os
 import pathlib
 import re
 import resource
+import signal
 import struct
 import subprocess
 import sys
@@ -337,10 +338,12 @@ class Test:
         ran = self.library.run(self.words, refusal=refusal)
         if ran.status == 0:
             return ran, "answered"
-        if ran.status > 0 and re.search(rb"rror: (AllocError|OutOfMemory)\b", ran.err + ran.out):
-            return ran, "AllocError"
-        if ran.status > 0 and b"starved" in ran.err + ran.out:
-            return ran, "starved"
+        # A test returns its error, or aborts where it expects what it needs.
+        if ran.status in (1, -signal.SIGABRT):
+            if re.search(rb": (AllocError|OutOfMemory|NoThread)$", ran.err + ran.out, re.M):
+                return ran, "AllocError"
+            if re.search(rb": starved$", ran.err + ran.out, re.M):
+                return ran, "starved"
         raise Fault(ran.text())
 
 
