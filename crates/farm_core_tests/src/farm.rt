@@ -1,6 +1,7 @@
 //! The limits of racks and settings, the collector, and runs, with answers from outside.
 mod asserting;
 mod collecting;
+mod fed;
 mod feeding;
 mod held;
 mod holding;

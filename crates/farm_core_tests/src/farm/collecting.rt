@@ -70,7 +70,7 @@ fn ended(collector: Collector<'_>) -> Ended
     }
 }
 
-/// Replies to requests of the rack `ONE`, in the order in which they come, those of them that are starved, and what the collector ends with.
+/// Replies to requests of the rack `ONE`, in the order in which they come, those that are starved, and what the collector ends with.
 pub(crate) struct Replies {
     name: &'static str,
     numbers: &'static [usize],

@@ -17,8 +17,8 @@ pub(crate) enum Hold {
     Gathered(u64),
     /// The first request for long.
     Late,
-    /// The feeder of each other feed ahead of its order until that of this feed has passed its first. Orders are passed so often in all, one
-    /// whose draw is refused counted too.
+    /// The feeder of each other feed ahead of its order until that of this feed has passed its first. Orders are passed so often in all,
+    /// one whose draw is refused counted too.
     First(usize, u64),
     /// The worker in the first request until the feeder has passed the order at this position, which is the first that a full queue has
     /// no room for, and a thousand turns more.

@@ -182,8 +182,18 @@ fn assert_done<R: Abort + Wait>(rt: &R, alloc: Global, row: usize) {
     let done = works_on(rt, alloc, entries);
     assert_holds(rt, !is_starved(&done.2), "a worker", "starved");
     assert_holds(rt, done.0 == *left, "a feeder", "it leaves something else");
-    assert_holds(rt, done.1.as_slice() == *counts, "two workers", "other counts");
-    assert_holds(rt, done.2.as_slice() == *replies, "two workers", "other replies");
+    assert_holds(
+        rt,
+        done.1.as_slice() == *counts,
+        "two workers",
+        "other counts",
+    );
+    assert_holds(
+        rt,
+        done.2.as_slice() == *replies,
+        "two workers",
+        "other replies",
+    );
 }
 
 #[test]

@@ -15,8 +15,8 @@ enum Limit {
     Orders(usize, bool),
     /// So many racks are accepted, or not.
     Racks(usize, bool),
-    /// So many racks of so many feeds, of which the last has another number of them, and what refuses them: that racks are too many, or not.
-    /// The number of racks is tested before that of their feeds.
+    /// So many racks of so many feeds, of which the last has another number of them, and what refuses them: that racks are too many, or
+    /// not. The number of racks is tested before that of their feeds.
     Feeds(usize, usize, usize, Option<bool>),
     /// So many workers and a queue of so many jobs, and what refuses them.
     Settings(usize, usize, Option<SettingsFault>),
@@ -84,12 +84,7 @@ fn are_sizes(racks: &[Vec<RackList>], count: usize, feeds: usize) -> bool {
 }
 
 /// Whether racks of feeds are accepted, and seen and given back as they are; or handed back as they are, since they are too many or not.
-fn are_feeds(
-    racks: Vec<Vec<RackList>>,
-    count: usize,
-    last: usize,
-    refused: Option<bool>,
-) -> bool {
+fn are_feeds(racks: Vec<Vec<RackList>>, count: usize, last: usize, refused: Option<bool>) -> bool {
     match Feeds::new(racks) {
         Ok(feeds) => {
             let seen = are_sizes(feeds.racks(), count, last);
@@ -126,7 +121,12 @@ fn is_limit(rt: &impl Abort, alloc: Global, limit: &Limit) -> bool {
             are_racks(empty_lists(rt, alloc, *count), *count, *accepted)
         }
         Limit::Feeds(racks, each, last, refused) => {
-            are_feeds(feeds(rt, alloc, *racks, *each, *last), *racks, *last, *refused)
+            are_feeds(
+                feeds(rt, alloc, *racks, *each, *last),
+                *racks,
+                *last,
+                *refused,
+            )
         }
         Limit::Settings(workers, queue, refused) => are_settings(*workers, *queue, *refused),
         Limit::Says(fault, text) => says(rt, alloc, *fault, text),

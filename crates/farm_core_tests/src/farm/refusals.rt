@@ -1,5 +1,5 @@
-//! Calls that a script also makes with each of their allocations and threads refused in turn: they end with the refusal where they meet one,
-//! and else with the answers.
+//! Calls that a script also makes with each of their allocations and threads refused in turn: they end with the refusal where they meet
+//! one, and else with the answers.
 use crate::farm::collecting::{ALL, assert_ended};
 use crate::farm::held::TWICE;
 use crate::farm::requests::{Entry, GLOBAL, LOCAL, SEVERAL, STRIPES};

@@ -1,6 +1,6 @@
 //! Runs of the farm, each a row of a table: what is asked, with what settings, and what has to come of it.
 use crate::farm::asserting::assert_holds;
-use crate::farm::feeding::{ByFeed, are_all_allowed, feeds_of};
+use crate::farm::fed::{ByFeed, are_all_allowed, feeds_of};
 use crate::farm::holding::{Hold, Holding};
 use crate::farm::requests::{
     Entry, GLOBAL, LOCAL, SEVERAL, STRIPES, are_answers, list_of, racks_of,
