@@ -1,133 +1,108 @@
 //! `solve` and remembered plans against worked requests.
-use super::fixtures::{Answer, CASES_IN_ALL, Case, case_at, cases, request_of};
-use super::wide_cases::wide_cases;
-use crate::assertions::assert_none;
+use super::fixtures::{Answer, CASES_IN_ALL, Case, case_at, request_of};
+use crate::assertions::{are_same_bytes, assert_holds, given};
 use bumpalo::Bump;
-use lrc_code::Outcome;
+use lrc_code::{Outcome, Request};
 use lrc_plan::{RememberedPlans, solve};
-use std::alloc::{AllocError, Global};
+use std::alloc::{AllocError, Allocator};
+use std::process::Abort;
 
-/// Whether the outcome is the expected answer.
-pub fn is_outcome(
-    outcome: Result<Outcome, AllocError>,
-    answer: Answer,
-) -> Result<bool, AllocError> {
-    let outcome = outcome?;
-    let is_expected = match (&outcome, answer) {
-        (Outcome::Rebuilt(bytes), Answer::Rebuilt(expected)) => bytes.as_slice() == expected,
+/// Whether an outcome is the expected answer.
+pub fn is_outcome(outcome: &Outcome, answer: Answer) -> bool {
+    match (outcome, answer) {
+        (Outcome::Rebuilt(bytes), Answer::Rebuilt(expected)) => {
+            are_same_bytes(bytes.as_slice(), expected)
+        }
         (Outcome::Contradiction, Answer::Contradiction) => true,
         (Outcome::Several, Answer::Several) => true,
         _ => false,
-    };
-    Ok(is_expected)
+    }
 }
 
-/// Whether `solve` gives a case's answer, with the plan in the heap and in an arena.
-fn is_answered(alloc: Global, case: &Case) -> Result<bool, AllocError> {
-    let request = request_of(alloc, case, None)?;
-    if !is_outcome(solve(alloc, alloc, &request), case.answer)? {
-        return Ok(false);
-    }
-    let bump = Bump::new(alloc);
-    is_outcome(solve(alloc, &bump, &request), case.answer)
+/// Asserts that a case is answered as expected.
+fn assert_answered(rt: &impl Abort, outcome: Result<Outcome, AllocError>, case: &Case) {
+    assert_holds(rt, is_outcome(&given(rt, outcome), case.answer), case.name);
 }
 
-/// The name of the first case for which it doesn't; none where it does for all.
-fn first_wrong(alloc: Global) -> Result<Option<&'static str>, AllocError> {
-    for index in 0..CASES_IN_ALL {
-        if let Some(case) = case_at(index) {
-            if !is_answered(alloc, case)? {
-                return Ok(Some(case.name));
-            }
-        }
-    }
-    Ok(None)
+/// Asserts that `solve` gives a case's answer, with its plan in memory of this allocator.
+fn assert_solved<A: Allocator + Copy>(
+    rt: &(impl Abort + AllocGlobal),
+    alloc: A,
+    request: &Request,
+    case: &Case,
+) {
+    assert_answered(rt, solve(rt.alloc(), alloc, request), case);
+}
+
+/// Asserts that it does with its plan in the heap and in an arena.
+fn assert_worked(rt: &(impl Abort + AllocGlobal), case: &Case) {
+    let request = request_of(rt, case, case.length);
+    assert_solved(rt, rt.alloc(), &request, case);
+    assert_solved(rt, &Bump::new(rt.alloc()), &request, case);
 }
 
 #[test]
-fn worked_requests_are_answered(rt: HostRuntime) -> Result<(), AllocError> {
-    assert_none(&rt, first_wrong(rt.alloc())?);
-    Ok(())
+fn worked_requests_are_answered(rt: HostRuntime) {
+    for index in 0..CASES_IN_ALL {
+        assert_worked(&rt, case_at(index));
+    }
 }
 
 /// Lengths around the parts in which an answer's vector is written: 4,096 bytes, and up to 8,191 for the last.
-const LENGTHS: &[u32] = &[
+static LENGTHS: [u32; 12] = [
     1, 31, 32, 33, 4_095, 4_096, 4_097, 8_191, 8_192, 8_193, 12_288, 65_536,
 ];
 
 /// Whether these are a byte at every third position, and 00 elsewhere, in a vector without room to spare.
 fn are_spread(found: &Vec<u8>, byte: u8, length: u32) -> bool {
-    let mut position = 0u32;
-    for other in found {
-        if *other != (if position % 3 == 0 { byte } else { 0 }) {
-            return false;
+    let mut are = found.len() == length as usize;
+    for position in 0..found.len() {
+        let expected = if position % 3 == 0 { byte } else { 0 };
+        are &= found[position] == expected;
+    }
+    are & (found.capacity() == found.len())
+}
+
+/// Whether an outcome has the byte of an answer at every third position of a length.
+fn is_spread(outcome: Outcome, answer: Answer, length: u32) -> bool {
+    match (outcome, answer) {
+        (Outcome::Rebuilt(bytes), Answer::Rebuilt([byte])) => {
+            are_spread(&bytes.into_vec(), *byte, length)
         }
-        position = position.wrapping_add(1);
-    }
-    position == length && found.capacity() == found.len()
-}
-
-/// Whether the survivors of a case have its answer at every third position, where their bytes are there.
-fn is_answered_at_length(alloc: Global, case: &Case, length: u32) -> Result<bool, AllocError> {
-    let Answer::Rebuilt([byte]) = case.answer else {
-        return Ok(false);
-    };
-    let request = request_of(alloc, case, Some(length))?;
-    match solve(alloc, alloc, &request)? {
-        Outcome::Rebuilt(bytes) => Ok(are_spread(&bytes.into_vec(), *byte, length)),
-        _ => Ok(false),
+        _ => false,
     }
 }
 
-/// The first length at which they haven't for the sum of three as they are, a sum of products, and the sum of six.
-fn wrong_length(alloc: Global) -> Option<u32> {
-    let narrow = cases();
-    let wide = wide_cases();
-    for length in LENGTHS {
-        for case in [&narrow[0], &narrow[4], &wide[0], &wide[3]] {
-            match is_answered_at_length(alloc, case, *length) {
-                Ok(true) => {}
-                _ => return Some(*length),
-            }
-        }
-    }
-    None
+/// Asserts that the survivors of a case have its answer at every third position, where their bytes are there.
+fn assert_spread(rt: &(impl Abort + AllocGlobal), case: &Case, length: u32) {
+    let request = request_of(rt, case, length);
+    let outcome = given(rt, solve(rt.alloc(), rt.alloc(), &request));
+    assert_holds(rt, is_spread(outcome, case.answer, length), length);
 }
 
+/// For the sum of three as they are, a sum of products, and the sum of six.
 #[test]
 fn long_answers_have_no_room_left(rt: HostRuntime) {
-    assert_none(&rt, wrong_length(rt.alloc()));
-}
-
-/// Whether a case is answered by plans that remember those of the cases before it.
-fn is_remembered(
-    alloc: Global,
-    plans: &mut RememberedPlans,
-    case: &Case,
-) -> Result<bool, AllocError> {
-    let request = request_of(alloc, case, None)?;
-    // The second time the plan is one that is remembered.
-    let first = is_outcome(plans.solve(alloc, &request), case.answer)?;
-    let second = is_outcome(plans.solve(alloc, &request), case.answer)?;
-    Ok(first && second)
-}
-
-/// The name of the first case that isn't, or for which memory is refused, where all cases come twice; none where all are.
-fn first_forgotten(alloc: Global) -> Option<&'static str> {
-    let mut plans = RememberedPlans::new(alloc);
-    for turn in 0..2 * CASES_IN_ALL {
-        if let Some(case) = case_at(turn % CASES_IN_ALL) {
-            match is_remembered(alloc, &mut plans, case) {
-                Ok(true) => {}
-                _ => return Some(case.name),
-            }
+    for number in 0..LENGTHS.len() {
+        let length = LENGTHS[number];
+        for index in [0usize, 4, 17, 20] {
+            assert_spread(&rt, case_at(index), length);
         }
     }
-    None
 }
 
-/// The program answers by more plans than are remembered in gate/reference-lines.sh.
+/// Asserts that a case is answered twice by plans that remember those of the cases before it, the second time by one that is remembered.
+fn assert_remembered(rt: &(impl Abort + AllocGlobal), plans: &mut RememberedPlans, case: &Case) {
+    let request = request_of(rt, case, case.length);
+    assert_answered(rt, plans.solve(rt.alloc(), &request), case);
+    assert_answered(rt, plans.solve(rt.alloc(), &request), case);
+}
+
+/// All cases come twice. The program answers by more plans than are remembered in gate/reference-lines.sh.
 #[test]
 fn worked_requests_are_answered_by_remembered_plans(rt: HostRuntime) {
-    assert_none(&rt, first_forgotten(rt.alloc()));
+    let mut plans = RememberedPlans::new(rt.alloc());
+    for turn in 0..2 * CASES_IN_ALL {
+        assert_remembered(&rt, &mut plans, case_at(turn % CASES_IN_ALL));
+    }
 }

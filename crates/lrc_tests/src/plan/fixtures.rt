@@ -1,13 +1,11 @@
 //! Requests with known answers, and trees that several tests build.
-ghost use Rattle.std.specs.Prelude.{◌≡◌, IfOk};
-ghost use Rattle.lrc_plan.specs.Form.{Leaf, Sum};
-ghost use Rattle.lrc_plan.specs.Tree.{form_of};
-
 use super::wide_cases::wide_cases;
+use crate::assertions::{are_same_bytes, given};
 use lrc_code::{Code, Fragment, Place, PlaceSet, Request};
 use lrc_field::Gf;
 use lrc_plan::Tree;
-use std::alloc::{AllocError, Allocator, Global};
+use std::alloc::Allocator;
+use std::process::Abort;
 
 /// What a request is answered.
 #[derive(Clone, Copy)]
@@ -29,6 +27,9 @@ pub struct Case {
     pub bytes: &'static [u8],
     pub answer: Answer,
 }
+
+/// The name of their stripe.
+static STRIPE: &str = "a";
 
 /// The requests of (6,2,2). They come out of a function since the proof of what names a long table itself takes longer.
 pub fn cases() -> &'static [Case; 17] {
@@ -271,46 +272,43 @@ static CASES: [Case; 17] = [
 /// How many cases there are.
 pub const CASES_IN_ALL: usize = 26;
 
-/// The case at an index, those of (6,2,2) first; none after the last.
-pub fn case_at(index: usize) -> Option<&'static Case> {
-    match cases().get(index) {
-        Some(case) => Some(case),
-        None => wide_cases().get(index.wrapping_sub(17)),
+/// The case at an index, those of (6,2,2) first.
+pub fn case_at(index: usize) -> &'static Case {
+    if index < 17 {
+        &cases()[index]
+    } else {
+        &wide_cases()[(index - 17).min(8)]
     }
 }
 
-/// A fragment: these bytes, or the first of them at every third position of a length, so that no two parts of an answer are alike, and 00
+/// A fragment of a length: these bytes, three at most, at every third position, so that no two parts of an answer are alike, and 00
 /// elsewhere.
-fn fragment(alloc: Global, bytes: &[u8], length: Option<u32>) -> Result<Vec<u8>, AllocError> {
-    let Some(length) = length else {
-        return bytes.to_vec(alloc);
-    };
-    let byte = *bytes.first().unwrap_or(&0);
-    let mut spread = Vec::with_capacity(alloc, length as usize)?;
-    for position in 0..length {
-        spread.push(if position % 3 == 0 { byte } else { 0 })?;
+fn fragment(rt: &(impl Abort + AllocGlobal), bytes: &[u8], length: u32) -> Vec<u8> {
+    let mut made = given(rt, vec![in rt.alloc(); 0u8; length as usize]);
+    for position in 0..made.len() {
+        made[position] = *bytes.get(position % 3).unwrap_or(&0);
     }
-    Ok(spread)
+    made
 }
 
-/// The request of a case; of a length with its bytes at every third position, if one is given. There is an error too where it is refused.
-pub fn request_of(alloc: Global, case: &Case, length: Option<u32>) -> Result<Request, AllocError> {
-    let stripe = "a".to_string(alloc)?;
-    let mut survivors = Vec::new(alloc);
+/// The request of a case, of its length, or of a greater one with its bytes at every third position.
+pub fn request_of(rt: &(impl Abort + AllocGlobal), case: &Case, length: u32) -> Request {
+    let mut survivors = Vec::new(rt.alloc());
     let mut rest = case.bytes;
     for place in case.places {
         let (own, others) = rest.split_at(rest.len().min(case.length as usize));
-        survivors.push(Fragment {
-            place: *place,
-            bytes: fragment(alloc, own, length)?,
-        })?;
+        let bytes = fragment(rt, own, length);
+        given(
+            rt,
+            survivors.push(Fragment {
+                place: *place,
+                bytes,
+            }),
+        );
         rest = others;
     }
-    let length = length.unwrap_or(case.length);
-    match Request::new_in(case.code, stripe, case.target, length, survivors) {
-        Ok(request) => Ok(request),
-        Err(_) => Err(AllocError),
-    }
+    let stripe = given(rt, STRIPE.to_string(rt.alloc()));
+    Request::new_in(case.code, stripe, case.target, length, survivors).expect(rt, case.name)
 }
 
 /// The set of these places.
@@ -322,44 +320,90 @@ pub fn set_of(places: &[Place]) -> PlaceSet {
     set
 }
 
-/// Whether two trees have the same shape, places and scalars.
-pub fn are_same<A: Allocator, B: Allocator>(one: &Tree<A>, other: &Tree<B>) -> bool {
-    match (one, other) {
-        (Tree::Leaf(a), Tree::Leaf(b)) => *a == *b,
-        (Tree::Scale(a, one), Tree::Scale(b, other)) => {
-            a.byte() == b.byte() && are_same(one, other)
+/// The nodes of trees as bytes, each before those below it: a place's index; F0 and a scalar; F1 for a sum. And how many nodes there are.
+#[derive(Clone, Copy)]
+pub struct Form {
+    bytes: [u8; 256],
+    length: usize,
+    pub nodes: usize,
+}
+
+impl Form {
+    /// The form of no trees.
+    pub fn new() -> Form {
+        Form {
+            bytes: [0; 256],
+            length: 0,
+            nodes: 0,
         }
-        (Tree::Sum(left, right), Tree::Sum(other_left, other_right)) => {
-            are_same(left, other_left) && are_same(right, other_right)
+    }
+
+    /// The form of a tree.
+    pub fn of<A: Allocator>(tree: &Tree<A>) -> Form {
+        let mut form = Form::new();
+        form.add(tree);
+        form
+    }
+
+    fn push(&mut self, byte: u8) {
+        self.bytes[self.length.min(255)] = byte;
+        self.length = self.length.saturating_add(1);
+    }
+
+    /// Adds the nodes of a tree.
+    pub fn add<A: Allocator>(&mut self, tree: &Tree<A>) {
+        self.nodes = self.nodes.saturating_add(1);
+        match tree {
+            Tree::Leaf(place) => self.push(place.index() as u8),
+            Tree::Scale(scalar, below) => {
+                self.push(0xf0);
+                self.push(scalar.byte());
+                self.add(below);
+            }
+            Tree::Sum(left, right) => {
+                self.push(0xf1);
+                self.add(left);
+                self.add(right);
+            }
         }
-        _ => false,
+    }
+
+    /// Whether these are all of its bytes.
+    pub fn is(&self, bytes: &[u8]) -> bool {
+        are_same_bytes(&self.bytes[..self.length.min(256)], bytes)
+    }
+
+    /// Whether it is the same as another.
+    pub fn is_same(&self, other: &Form) -> bool {
+        self.is(&other.bytes[..other.length.min(256)]) & (self.length <= 256)
     }
 }
 
 /// The sum of two leaves.
 pub fn sum_of_leaves<A: Allocator + Copy>(
+    rt: &impl Abort,
     alloc: A,
     left: Place,
     right: Place,
-) -> Result<Tree<A>, AllocError>
-    ensures { IfOk result (λ t. form_of t ≡ Sum (Leaf left) (Leaf right)) }
-{
-    let left = Box::new(alloc, Tree::Leaf(left))?;
-    let right = Box::new(alloc, Tree::Leaf(right))?;
-    Ok(Tree::Sum(left, right))
+) -> Tree<A> {
+    let left = given(rt, Box::new(alloc, Tree::Leaf(left)));
+    let right = given(rt, Box::new(alloc, Tree::Leaf(right)));
+    Tree::Sum(left, right)
 }
 
 /// A scalar times a leaf.
-pub fn scaled_leaf<A: Allocator>(
-    alloc: A,
-    scalar: u8,
-    place: Place,
-) -> Result<Tree<A>, AllocError> {
-    Ok(Tree::Scale(Gf::new(scalar), Box::new(alloc, Tree::Leaf(place))?))
+pub fn scaled_leaf<A: Allocator>(rt: &impl Abort, alloc: A, scalar: u8, place: Place) -> Tree<A> {
+    Tree::Scale(
+        Gf::new(scalar),
+        given(rt, Box::new(alloc, Tree::Leaf(place))),
+    )
 }
 
+/// The form of the sample.
+pub static SAMPLE: &[u8] = b"\xf0\x03\xf1\x01\x02";
+
 /// 03 * (x1 + x2)
-pub fn sample<A: Allocator + Copy>(alloc: A) -> Result<Tree<A>, AllocError> {
-    let sum = sum_of_leaves(alloc, Place::X1, Place::X2)?;
-    Ok(Tree::Scale(Gf::new(0x03), Box::new(alloc, sum)?))
+pub fn sample<A: Allocator + Copy>(rt: &impl Abort, alloc: A) -> Tree<A> {
+    let sum = sum_of_leaves(rt, alloc, Place::X1, Place::X2);
+    Tree::Scale(Gf::new(0x03), given(rt, Box::new(alloc, sum)))
 }

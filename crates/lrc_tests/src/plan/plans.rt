@@ -1,42 +1,55 @@
 //! Plans and grafts against a table, in the global allocator and in an arena.
 use super::fixtures::{scaled_leaf, set_of, sum_of_leaves};
-use crate::assertions::assert_none;
+use crate::assertions::{assert_holds, assert_so, given};
 use bumpalo::Bump;
 use lrc_code::{Code, Place, PlaceSet};
-use lrc_plan::{Plan, Tree, plan, plan_in};
-use std::alloc::{AllocError, Allocator};
+use lrc_plan::{GraftRefused, Plan, Tree, plan, plan_in};
+use std::alloc::Allocator;
+use std::process::Abort;
 
-/// Whether a plan has a value of just these leaves, each once, and so many checks.
-fn has_leaves<A: Allocator>(plan: &Plan<A>, places: &[Place], checks: usize) -> bool {
+/// How many leaves the value of a plan has, at which places, and how many checks there are; no leaves if there is no value.
+#[derive(Clone, Copy)]
+struct Found {
+    leaves: usize,
+    places: PlaceSet,
+    checks: usize,
+}
+
+/// What a plan is like.
+fn found_in<A: Allocator>(plan: &Plan<A>) -> Found {
+    let checks = plan.checks.len();
     match &plan.value {
-        Some(value) => {
-            plan.checks.len() == checks
-                && value.leaf_count() as usize == places.len()
-                && value.leaves() == set_of(places)
-        }
-        None => false,
+        Some(value) => Found {
+            leaves: value.leaf_count() as usize,
+            places: value.leaves(),
+            checks,
+        },
+        None => Found {
+            leaves: 0,
+            places: PlaceSet::empty(),
+            checks,
+        },
     }
 }
 
-/// Whether the plan of x0 has these leaves, and so many checks.
-fn is_local<A: Allocator + Copy>(
+/// What the plan is like that is made there; none where the target survives or isn't in the code. That of the (6,2,2) code is made by the
+/// call that names no code, if so asked.
+fn planned<A: Allocator + Copy>(
+    rt: &impl Abort,
     alloc: A,
-    code: Code,
+    asked: (Code, bool),
     survivors: PlaceSet,
-    group: &[Place],
-    checks: usize,
-) -> bool {
-    if survivors.has(Place::X0) || !code.has(Place::X0) {
-        return false;
+    target: Place,
+) -> Option<Found> {
+    let (code, is_named) = asked;
+    if survivors.has(target) || !code.has(target) {
+        return None;
     }
-    let planned = match code {
-        Code::Narrow => plan(alloc, survivors, Place::X0),
-        Code::Wide => plan_in(alloc, code, survivors, Place::X0),
+    let made = match code {
+        Code::Narrow if !is_named => plan(alloc, survivors, target),
+        _ => plan_in(alloc, code, survivors, target),
     };
-    match planned {
-        Ok(plan) => has_leaves(&plan, group, checks),
-        Err(_) => false,
-    }
+    Some(found_in(&given(rt, made)))
 }
 
 /// The others of the group of x0.
@@ -52,79 +65,91 @@ const SIX: &[Place] = &[
     Place::Px,
 ];
 
-/// Whether the plans of x0 read the others of its group. There is no check where only those survive, and there are three where all others
-/// do.
-fn are_local<A: Allocator + Copy>(alloc: A) -> bool {
-    let x0 = PlaceSet::empty().with(Place::X0);
-    is_local(alloc, Code::Narrow, set_of(THREE), THREE, 0)
-        && is_local(alloc, Code::Narrow, Code::Narrow.others(x0), THREE, 3)
-        && is_local(alloc, Code::Wide, set_of(SIX), SIX, 0)
-        && is_local(alloc, Code::Wide, Code::Wide.others(x0), SIX, 3)
+/// A code, the others of the group of x0, whether they alone survive and not all others of the code, and how many checks there are then.
+static LOCAL: [(Code, &[Place], bool, usize); 4] = [
+    (Code::Narrow, THREE, true, 0),
+    (Code::Narrow, THREE, false, 3),
+    (Code::Wide, SIX, true, 0),
+    (Code::Wide, SIX, false, 3),
+];
+
+/// Whether the plan of x0 has each of the others of its group as a leaf once, and so many checks.
+fn is_local<A: Allocator + Copy>(
+    rt: &impl Abort,
+    alloc: A,
+    row: &(Code, &[Place], bool, usize),
+) -> bool {
+    let group = set_of(row.1);
+    let others = row.0.others(PlaceSet::empty().with(Place::X0));
+    let survivors = if row.2 { group } else { others };
+    match planned(rt, alloc, (row.0, false), survivors, Place::X0) {
+        Some(found) => {
+            (found.leaves == row.1.len()) & (found.places == group) & (found.checks == row.3)
+        }
+        None => false,
+    }
 }
 
 /// Whether a tree has two leaves of one place, whose sum is 00.
 fn is_zero_of<A: Allocator>(tree: &Tree<A>, leaf: Place) -> bool {
-    for coefficient in tree.coefficients() {
-        if coefficient.byte() != 0 {
-            return false;
-        }
+    let coefficients = tree.coefficients();
+    let mut is = (tree.leaf_count() == 2) & (tree.leaves() == PlaceSet::empty().with(leaf));
+    for index in 0..16usize {
+        is &= coefficients[index].byte() == 0;
     }
-    tree.leaf_count() == 2 && tree.leaves() == PlaceSet::empty().with(leaf)
+    is
 }
 
-/// Whether a scaled leaf of x2, put in the place of these leaves of x1 + x1, leaves two leaves of one place, whose sum is 00. Where the
-/// host lacks the place it comes back.
-fn grafts_at<A: Allocator + Copy>(alloc: A, place: Place, leaf: Place) -> Result<bool, AllocError> {
-    let host = sum_of_leaves(alloc, Place::X1, Place::X1)?;
-    let scion = scaled_leaf(alloc, 0x02, Place::X2)?;
-    match host.graft(alloc, place, scion) {
-        Ok(tree) => Ok(is_zero_of(&tree, leaf)),
-        Err(_) => Err(AllocError),
+/// Whether a graft is made and leaves two leaves of one place, whose sum is 00.
+fn is_grafted<A: Allocator>(grafted: Result<Tree<A>, GraftRefused<A>>, leaf: Place) -> bool {
+    match grafted {
+        Ok(tree) => is_zero_of(&tree, leaf),
+        Err(_) => false,
     }
 }
 
-/// Whether the target's plan has a value that reads no more fragments than the code has data, and how many checks; none where the target
-/// survives or isn't in the code, or memory is refused.
+/// Whether a scaled leaf of x2, put in the place of these leaves of x1 + x1, leaves these. Where the host lacks the place it comes back.
+fn grafts_at<A: Allocator + Copy>(rt: &impl Abort, alloc: A, place: Place, leaf: Place) -> bool {
+    let host = sum_of_leaves(rt, alloc, Place::X1, Place::X1);
+    let scion = scaled_leaf(rt, alloc, 0x02, Place::X2);
+    is_grafted(host.graft(alloc, place, scion), leaf)
+}
+
+/// Whether the target's plan has a value that reads no more fragments than the code has data, and how many checks.
 fn counts<A: Allocator + Copy>(
+    rt: &impl Abort,
     alloc: A,
     code: Code,
     survivors: PlaceSet,
     target: Place,
-) -> Option<(bool, usize)> {
-    if survivors.has(target) || !code.has(target) {
-        return None;
+) -> (bool, usize) {
+    match planned(rt, alloc, (code, true), survivors, target) {
+        Some(found) => (
+            (found.leaves != 0) & (found.leaves <= code.data_count()),
+            found.checks,
+        ),
+        None => (false, usize::MAX),
     }
-    let Ok(plan) = plan_in(alloc, code, survivors, target) else {
-        return None;
-    };
-    let has_value = match &plan.value {
-        Some(value) => value.leaf_count() as usize <= code.data_count(),
-        None => false,
-    };
-    Some((has_value, plan.checks.len()))
 }
 
-/// Whether plans made there have the known numbers of checks.
-fn have_checks<A: Allocator + Copy>(alloc: A) -> bool {
-    let whole_group = set_of(&[Place::Y0, Place::Y1, Place::Y2, Place::Py]);
-    let cases = [
-        (set_of(THREE), Place::X0, (true, 0)),
-        (
-            set_of(&[Place::Y0, Place::Py]).others(),
-            Place::Y0,
-            (true, 2),
-        ),
-        (whole_group.others(), Place::Y0, (false, 1)),
-        (whole_group.with(Place::X0).others(), Place::X0, (true, 0)),
-        (PlaceSet::empty(), Place::X0, (false, 0)),
-    ];
-    for (survivors, target, expected) in cases {
-        if counts(alloc, Code::Narrow, survivors, target) != Some(expected) {
-            return false;
-        }
-    }
-    true
-}
+/// Places of the (6,2,2) code that survive, or else are lost, a target, whether it has a value, and how many checks there are.
+static CHECKS: [(&[Place], bool, Place, (bool, usize)); 5] = [
+    (THREE, true, Place::X0, (true, 0)),
+    (&[Place::Y0, Place::Py], false, Place::Y0, (true, 2)),
+    (
+        &[Place::Y0, Place::Y1, Place::Y2, Place::Py],
+        false,
+        Place::Y0,
+        (false, 1),
+    ),
+    (
+        &[Place::Y0, Place::Y1, Place::Y2, Place::Py, Place::X0],
+        false,
+        Place::X0,
+        (true, 0),
+    ),
+    (&[], true, Place::X0, (false, 0)),
+];
 
 /// The places whose bits are set.
 fn places_of(bits: usize) -> PlaceSet {
@@ -139,21 +164,29 @@ fn places_of(bits: usize) -> PlaceSet {
 }
 
 /// Whether each of these lost places has a value.
-fn all_have_values<A: Allocator + Copy>(alloc: A, code: Code, lost: PlaceSet) -> bool {
+fn all_have_values<A: Allocator + Copy>(
+    rt: &impl Abort,
+    alloc: A,
+    code: Code,
+    lost: PlaceSet,
+) -> bool {
     let survivors = code.others(lost);
+    let mut all = true;
     for target in code.places() {
         if lost.has(*target) {
-            match counts(alloc, code, survivors, *target) {
-                Some((true, _)) => {}
-                _ => return false,
-            }
+            all &= counts(rt, alloc, code, survivors, *target).0;
         }
     }
-    true
+    all
 }
 
 /// How many sets of so many lost places there are, and in how many of them all targets have values.
-fn recovered<A: Allocator + Copy>(alloc: A, code: Code, len: usize) -> (usize, usize) {
+fn recovered<A: Allocator + Copy>(
+    rt: &impl Abort,
+    alloc: A,
+    code: Code,
+    len: usize,
+) -> (usize, usize) {
     let mut sets = 0usize;
     let mut whole = 0usize;
     let end: usize = match code {
@@ -163,7 +196,7 @@ fn recovered<A: Allocator + Copy>(alloc: A, code: Code, len: usize) -> (usize, u
     for bits in 0..end {
         if bits.count_ones() as usize == len {
             sets = sets.saturating_add(1);
-            if all_have_values(alloc, code, places_of(bits)) {
+            if all_have_values(rt, alloc, code, places_of(bits)) {
                 whole = whole.saturating_add(1);
             }
         }
@@ -172,38 +205,44 @@ fn recovered<A: Allocator + Copy>(alloc: A, code: Code, len: usize) -> (usize, u
 }
 
 /// A code, how many are lost, and how many such sets there are and in how many all targets have values.
-const RECOVERED: &[(Code, usize, (usize, usize))] = &[
+static RECOVERED: [(Code, usize, (usize, usize)); 3] = [
     (Code::Narrow, 3, (120, 120)),
     (Code::Narrow, 4, (210, 180)),
     (Code::Wide, 3, (560, 560)),
 ];
 
-/// What doesn't hold of the plans that are made there.
-fn wrong_plans<A: Allocator + Copy>(alloc: A) -> Option<&'static str> {
-    if !are_local(alloc) {
-        return Some("local plans");
+/// Whether the plan of a row has what it says.
+fn has_checks<A: Allocator + Copy>(
+    rt: &impl Abort,
+    alloc: A,
+    row: &(&[Place], bool, Place, (bool, usize)),
+) -> bool {
+    let places = set_of(row.0);
+    let survivors = if row.1 { places } else { places.others() };
+    counts(rt, alloc, Code::Narrow, survivors, row.2) == row.3
+}
+
+/// Asserts all of that of the plans that are made there.
+fn assert_plans<A: Allocator + Copy>(rt: &impl Abort, alloc: A) {
+    for number in 0..LOCAL.len() {
+        assert_holds(rt, is_local(rt, alloc, &LOCAL[number]), number);
     }
-    if !grafts_at(alloc, Place::X1, Place::X2).unwrap_or(false)
-        || !grafts_at(alloc, Place::Y0, Place::X1).unwrap_or(false)
-    {
-        return Some("grafts");
+    assert_so(rt, grafts_at(rt, alloc, Place::X1, Place::X2));
+    assert_so(rt, grafts_at(rt, alloc, Place::Y0, Place::X1));
+    for number in 0..CHECKS.len() {
+        assert_holds(rt, has_checks(rt, alloc, &CHECKS[number]), number);
     }
-    if !have_checks(alloc) {
-        return Some("numbers of checks");
+    for number in 0..RECOVERED.len() {
+        let row = &RECOVERED[number];
+        let found = recovered(rt, alloc, row.0, row.1);
+        assert_holds(rt, found == row.2, found);
     }
-    for (code, lost, expected) in RECOVERED {
-        if recovered(alloc, *code, *lost) != *expected {
-            return Some("plans of three or four lost places");
-        }
-    }
-    None
 }
 
 /// In the heap, and then in an arena. Each three lost places have plans, and most four of the (6,2,2) code.
 #[test]
 fn plans_are_the_known_ones_and_grafts_replace_each_leaf(rt: HostRuntime) {
-    let alloc = rt.alloc();
-    assert_none(&rt, wrong_plans(alloc));
-    let bump = Bump::new(alloc);
-    assert_none(&rt, wrong_plans(&bump));
+    assert_plans(&rt, rt.alloc());
+    let bump = Bump::new(rt.alloc());
+    assert_plans(&rt, &bump);
 }

@@ -14,19 +14,20 @@ fn place_of(tree: &Tree<Global>) -> Option<Place> {
     }
 }
 
-/// Whether a plan of one leaf has just that.
-fn is_leaf(alloc: Global) -> bool {
-    let Plan { value, checks } = Plan {
-        value: Some(Tree::Leaf(Place::X1)),
-        checks: Vec::new(alloc),
+/// The place of a plan's value and the number of its checks.
+fn parts_of(Plan { value, checks }: &Plan<Global>) -> (Option<Place>, usize) {
+    let place = match value {
+        Some(tree) => place_of(tree),
+        None => None,
     };
-    match &value {
-        Some(tree) => checks.is_empty() && place_of(tree) == Some(Place::X1),
-        None => false,
-    }
+    (place, checks.len())
 }
 
 #[test]
 fn trees_and_plans_have_their_names(rt: HostRuntime) {
-    assert_so(&rt, is_leaf(rt.alloc()));
+    let plan = Plan {
+        value: Some(Tree::Leaf(Place::X1)),
+        checks: Vec::new(rt.alloc()),
+    };
+    assert_so(&rt, parts_of(&plan) == (Some(Place::X1), 0));
 }
