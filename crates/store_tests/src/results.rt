@@ -2,6 +2,7 @@
 use crate::asserting::{assert_holds, assert_text};
 use lrc_code::{Code, Place, PlaceSet};
 use std::alloc::{AllocError, Global};
+use std::io;
 use std::process::Abort;
 use store_faults::{CopyFinding, CopyReason, Descriptions};
 use store_folder::{Links, Pattern, Site};
@@ -56,61 +57,41 @@ const SCRUBBED: &str =
 /// Of a stripe x0 and p1 were rebuilt, each of 1,536 bytes and without a check; x0 was damaged; one copy of its description was made and
 /// one is lost. A file is alone.
 #[test]
-fn what_became_of_a_stripe_is_said(rt: HostRuntime) {
+fn what_became_of_a_stripe_is_said(rt: HostRuntime) -> io::Result<()> {
     let alloc = rt.alloc();
-    let all = [done_of(&rt, alloc)];
-    let alone = [Alone {
-        stripe: text_of(&rt, alloc, "z"),
-        place: Place::Y2,
-    }];
-    assert_results(&rt, alloc, all.as_slice(), alone.as_slice());
-}
-
-/// Asserts all that is said of it.
-fn assert_results(rt: &impl Abort, alloc: Global, all: &[Done], alone: &[Alone]) {
     let stripes = [Stripe {
         name: "a,b",
         files: StripeFiles::new(),
     }];
+    let all = [done_of(alloc)?];
+    let alone = [Alone {
+        stripe: String::from_str(alloc, "z")?,
+        place: Place::Y2,
+    }];
     let contents = Contents {
         stripes: stripes.as_slice(),
-        alone,
+        alone: alone.as_slice(),
         has_unlisted: false,
     };
-    let results = Results::new(alloc, &SITE, contents, all, "rebuilt").expect(rt, "results");
+    let results = Results::new(alloc, &SITE, contents, all.as_slice(), "rebuilt")?;
     assert_holds(
-        rt,
+        &rt,
         are_counted(&results),
         "what is counted, and the statuses",
     );
-    assert_lines(rt, alloc, &results);
-    assert_texts(rt, alloc, &results);
-}
-
-/// A text of its own.
-fn text_of(rt: &impl Abort, alloc: Global, text: &str) -> String {
-    String::from_str(alloc, text).expect(rt, "a text")
-}
-
-/// Asserts that a text could be made and is the one that is wanted.
-fn assert_made(rt: &impl Abort, made: Result<String, AllocError>, wanted: &str) {
-    let text = made.expect(rt, "a text");
-    assert_text(rt, text.as_str(), wanted);
+    assert_lines(&rt, alloc, &results)?;
+    assert_texts(&rt, alloc, &results)?;
+    Ok(())
 }
 
 /// Asserts the rows and the summaries.
-fn assert_texts(rt: &impl Abort, alloc: Global, results: &Results<'_>) {
-    assert_text(
-        rt,
-        rows_of(alloc, results, Rows::Csv)
-            .expect(rt, "rows")
-            .as_str(),
-        CSV,
-    );
-    let objects = rows_of(alloc, results, Rows::Json).expect(rt, "objects");
+fn assert_texts(rt: &impl Abort, alloc: Global, results: &Results<'_>) -> io::Result<()> {
+    assert_text(rt, rows_of(alloc, results, Rows::Csv)?.as_str(), CSV);
+    let objects = rows_of(alloc, results, Rows::Json)?;
     assert_holds(rt, objects.starts_with(JSON), JSON);
-    assert_made(rt, repaired(alloc, results), REPAIRED);
-    assert_made(rt, scrubbed(alloc, results), SCRUBBED);
+    assert_text(rt, repaired(alloc, results)?.as_str(), REPAIRED);
+    assert_text(rt, scrubbed(alloc, results)?.as_str(), SCRUBBED);
+    Ok(())
 }
 
 /// Whether this is counted, and these are the statuses.
@@ -137,79 +118,63 @@ fn are_lines(lines: &[String], wanted: &[&str]) -> bool {
     lines.len() == wanted.len()
 }
 
-/// Asserts that lines could be made and are these.
-fn assert_wanted(
-    rt: &impl Abort,
-    made: Result<Vec<String>, AllocError>,
-    wanted: &[&str],
-    what: &str,
-) {
-    let lines = made.expect(rt, "lines");
-    assert_holds(rt, are_lines(lines.as_slice(), wanted), what);
-}
-
 /// Asserts the lines.
-fn assert_lines(rt: &impl Abort, alloc: Global, results: &Results<'_>) {
+fn assert_lines(rt: &impl Abort, alloc: Global, results: &Results<'_>) -> Result<(), AllocError> {
     for done in results.all {
-        assert_wanted(rt, finding_lines(alloc, results, done), &FOUND, "findings");
-        let unchecked = unchecked_lines(alloc, results, done);
-        assert_wanted(rt, unchecked, &UNCHECKED, "unchecked");
+        let lines = finding_lines(alloc, results, done)?;
+        assert_holds(rt, are_lines(lines.as_slice(), &FOUND), "findings");
+        let lines = unchecked_lines(alloc, results, done)?;
+        assert_holds(rt, are_lines(lines.as_slice(), &UNCHECKED), "unchecked");
     }
-    let lines = alone_lines(alloc, &Pattern::PLAIN, Code::Narrow, results.alone, false);
-    assert_wanted(rt, lines, &[ALONE], "alone");
-}
-
-/// Puts a finding behind others.
-fn note(rt: &impl Abort, findings: &mut Vec<Finding>, place: Option<Place>, reason: Reason) {
-    findings
-        .push(Finding { place, reason })
-        .expect(rt, "room for a finding");
+    let lines = alone_lines(alloc, &Pattern::PLAIN, Code::Narrow, results.alone, false)?;
+    assert_holds(rt, are_lines(lines.as_slice(), &[ALONE]), "alone");
+    Ok(())
 }
 
 /// What became of the stripe's fragments.
-fn outcome_of(rt: &impl Abort, alloc: Global) -> StripeOutcome {
+fn outcome_of(alloc: Global) -> Result<StripeOutcome, AllocError> {
     let mut findings = Vec::new(alloc);
-    note(rt, &mut findings, Some(Place::X0), Reason::Damaged);
-    note(rt, &mut findings, None, Reason::NoSurvivor);
+    findings.push(Finding {
+        place: Some(Place::X0),
+        reason: Reason::Damaged,
+    })?;
+    findings.push(Finding {
+        place: None,
+        reason: Reason::NoSurvivor,
+    })?;
     let mut outcome = StripeOutcome::of(alloc, findings);
     outcome.length = 1536;
-    outcome
-        .rebuilt
-        .push(Place::X0)
-        .expect(rt, "room for a place");
-    outcome
-        .rebuilt
-        .push(Place::P1)
-        .expect(rt, "room for a place");
-    outcome
+    outcome.rebuilt.push(Place::X0)?;
+    outcome.rebuilt.push(Place::P1)?;
+    Ok(outcome)
 }
 
 /// What became of its descriptions.
-fn descriptions_of(rt: &impl Abort, alloc: Global) -> Descriptions {
-    let mut made = Vec::new(alloc);
-    made.push(text_of(rt, alloc, "a,b.file"))
-        .expect(rt, "room for a name");
-    let mut findings = Vec::new(alloc);
-    let name = text_of(rt, alloc, "a,b.file.copy");
-    let reason = CopyReason::Lost;
-    findings
-        .push(CopyFinding { name, reason })
-        .expect(rt, "room for a finding");
-    Descriptions {
+fn descriptions_of(alloc: Global) -> Result<Descriptions, AllocError> {
+    let mut descriptions = Descriptions {
         replaceable: 0,
         described: None,
-        made,
-        findings,
-    }
+        made: Vec::new(alloc),
+        findings: Vec::new(alloc),
+    };
+    descriptions
+        .made
+        .push(String::from_str(alloc, "a,b.file")?)?;
+    descriptions.findings.push(CopyFinding {
+        name: String::from_str(alloc, "a,b.file.copy")?,
+        reason: CopyReason::Lost,
+    })?;
+    Ok(descriptions)
 }
 
 /// What became of the stripe.
-fn done_of(rt: &impl Abort, alloc: Global) -> Done {
-    Done {
+fn done_of(alloc: Global) -> Result<Done, AllocError> {
+    let outcome = outcome_of(alloc)?;
+    Ok(Done {
         index: 0,
-        outcome: outcome_of(rt, alloc),
-        descriptions: Some(descriptions_of(rt, alloc)),
-    }
+        outcome,
+        descriptions: Some(descriptions_of(alloc)?),
+    })
 }
 
 /// What is under the name of the lost x0, whether the survivors are checked, whether damaged ones are replaced, whether fragments go
@@ -229,7 +194,7 @@ const PLANNED: &str =
     "1 stripe of 6-2-2, 2 KiB; 1 lost in 1; 1 can be rebuilt (1 unchecked), 0 can't; reads 4 KiB, writes 2 KiB";
 
 /// A plan to rebuild x0.
-fn plan_of(rt: &impl Abort, alloc: Global, is_checked: bool) -> StripeOutcome {
+fn plan_of(alloc: Global, is_checked: bool) -> Result<StripeOutcome, AllocError> {
     let mut plan = StripeOutcome::of(alloc, Vec::new(alloc));
     plan.length = 2048;
     plan.is_checked = is_checked;
@@ -238,8 +203,8 @@ fn plan_of(rt: &impl Abort, alloc: Global, is_checked: bool) -> StripeOutcome {
     } else {
         PlaceSet::empty().with(Place::X1).with(Place::X2)
     };
-    plan.rebuilt.push(Place::X0).expect(rt, "room for a place");
-    plan
+    plan.rebuilt.push(Place::X0)?;
+    Ok(plan)
 }
 
 /// A stripe with this under the name of x0.
@@ -261,7 +226,7 @@ fn assert_plan(
     rt: &impl Abort,
     alloc: Global,
     (under, is_checked, replace_damaged, elsewhere, is_rebuilt): (Found, bool, bool, bool, bool),
-) {
+) -> Result<(), AllocError> {
     let stripe = stripe_with(under);
     let repair = Repair {
         code: Code::Narrow,
@@ -270,51 +235,57 @@ fn assert_plan(
         assume_one_damaged: false,
         elsewhere,
     };
-    let whole = plan_of(rt, alloc, is_checked);
-    let outcome = without_left(alloc, &repair, &stripe, whole).expect(rt, "a plan");
-    assert_holds(rt, is_planned(&outcome, is_rebuilt), "what would be done");
-    let all = [Done {
-        index: 0,
-        outcome,
-        descriptions: None,
-    }];
+    let plan = without_left(alloc, &repair, &stripe, plan_of(alloc, is_checked)?)?;
+    assert_holds(rt, is_planned(&plan, is_rebuilt), "what would be done");
     if !is_checked && is_rebuilt {
-        assert_planned(rt, alloc, &[stripe], all.as_slice());
+        assert_planned(rt, alloc, &[stripe], plan)?;
     }
+    Ok(())
 }
 
 #[test]
-fn a_plan_says_what_would_be_done(rt: HostRuntime) {
+fn a_plan_says_what_would_be_done(rt: HostRuntime) -> Result<(), AllocError> {
     for plan in PLANS {
-        assert_plan(&rt, rt.alloc(), plan);
+        assert_plan(&rt, rt.alloc(), plan)?;
     }
+    Ok(())
 }
 
 /// Asserts what is said of a stripe whose x0 would be rebuilt, and the statuses of that.
-fn assert_planned(rt: &impl Abort, alloc: Global, stripes: &[Stripe<'_>], all: &[Done]) {
+fn assert_planned(
+    rt: &impl Abort,
+    alloc: Global,
+    stripes: &[Stripe<'_>],
+    plan: StripeOutcome,
+) -> Result<(), AllocError> {
+    let all = [Done {
+        index: 0,
+        outcome: plan,
+        descriptions: None,
+    }];
     let contents = Contents {
         stripes,
         alone: &[],
         has_unlisted: false,
     };
-    let results = Results::new(alloc, &SITE, contents, all, "would be rebuilt").expect(
-        rt, "results",
-    );
-    assert_made(rt, planned(alloc, &results), PLANNED);
+    let results = Results::new(alloc, &SITE, contents, all.as_slice(), "would be rebuilt")?;
+    assert_text(rt, planned(alloc, &results)?.as_str(), PLANNED);
     let totals = &results.totals;
     let are_so = status_of(totals, true) == 0 && status_of_plan(totals, true) == 1;
     assert_holds(rt, are_so, "the statuses");
+    Ok(())
 }
 
 /// What is said of x0, x0 again, x1 and a stripe twice: what isn't said of the same fragment before stays.
 #[test]
-fn what_is_said_of_a_fragment_first_stays(rt: HostRuntime) {
-    let outcome = StripeOutcome::of(rt.alloc(), repeated(&rt, rt.alloc()));
-    let plan = without_repeated(rt.alloc(), outcome, 1).expect(&rt, "an outcome");
+fn what_is_said_of_a_fragment_first_stays(rt: HostRuntime) -> Result<(), AllocError> {
+    let outcome = StripeOutcome::of(rt.alloc(), repeated(rt.alloc())?);
+    let plan = without_repeated(rt.alloc(), outcome, 1)?;
     assert_holds(&rt, are_first(plan.findings.as_slice()), "findings");
+    Ok(())
 }
 
-fn repeated(rt: &impl Abort, alloc: Global) -> Vec<Finding> {
+fn repeated(alloc: Global) -> Result<Vec<Finding>, AllocError> {
     let mut findings = Vec::new(alloc);
     for place in [
         Some(Place::X0),
@@ -323,9 +294,10 @@ fn repeated(rt: &impl Abort, alloc: Global) -> Vec<Finding> {
         None,
         None,
     ] {
-        note(rt, &mut findings, place, Reason::OtherLength);
+        let reason = Reason::OtherLength;
+        findings.push(Finding { place, reason })?;
     }
-    findings
+    Ok(findings)
 }
 
 fn are_first(findings: &[Finding]) -> bool {
@@ -341,32 +313,37 @@ fn are_first(findings: &[Finding]) -> bool {
 }
 
 /// A damaged fragment, beside which maybe one is kept that was replaced.
-fn damaged(rt: &impl Abort, alloc: Global, is_checked: bool, is_kept: bool) -> Done {
+fn damaged(alloc: Global, is_checked: bool, is_kept: bool) -> Result<Done, AllocError> {
     let mut findings = Vec::new(alloc);
-    note(rt, &mut findings, Some(Place::P0), Reason::Differs);
+    let place = Some(Place::P0);
+    let reason = Reason::Differs;
+    findings.push(Finding { place, reason })?;
     if is_kept {
-        note(rt, &mut findings, Some(Place::P0), Reason::KeptThere);
+        let reason = Reason::KeptThere;
+        findings.push(Finding { place, reason })?;
     }
     let mut outcome = StripeOutcome::of(alloc, findings);
     outcome.is_checked = is_checked;
-    Done {
+    Ok(Done {
         index: 0,
         outcome,
         descriptions: None,
-    }
+    })
 }
 
 /// It is left for --replace-damaged alone, unless something else is said of it or no check covers it.
 #[test]
-fn what_replacing_would_mend_is_counted(rt: HostRuntime) {
+fn what_replacing_would_mend_is_counted(rt: HostRuntime) -> Result<(), AllocError> {
     for (is_checked, is_kept, count) in [(true, false, 1), (true, true, 0), (false, false, 0)] {
-        let all = [damaged(&rt, rt.alloc(), is_checked, is_kept)];
-        assert_mended(&rt, rt.alloc(), all.as_slice(), count);
+        let all = [damaged(rt.alloc(), is_checked, is_kept)?];
+        let is = is_mended(rt.alloc(), all.as_slice(), count)?;
+        assert_holds(&rt, is, "what replacing would mend");
     }
+    Ok(())
 }
 
-/// Asserts that of what became of a stripe so many are counted and said that replacing would mend.
-fn assert_mended(rt: &impl Abort, alloc: Global, all: &[Done], count: u64) {
+/// Whether of what became of a stripe so many are counted and said that replacing would mend.
+fn is_mended(alloc: Global, all: &[Done], count: u64) -> Result<bool, AllocError> {
     let files = StripeFiles::new();
     let stripes = [Stripe { name: "s", files }];
     let contents = Contents {
@@ -374,9 +351,8 @@ fn assert_mended(rt: &impl Abort, alloc: Global, all: &[Done], count: u64) {
         alone: &[],
         has_unlisted: false,
     };
-    let results = Results::new(alloc, &SITE, contents, all, "rebuilt").expect(rt, "results");
-    let said = repaired(alloc, &results).expect(rt, "a summary");
+    let results = Results::new(alloc, &SITE, contents, all, "rebuilt")?;
+    let said = repaired(alloc, &results)?;
     let is_said = said.contains("; left without --replace-damaged: 1; not possible: 0");
-    assert_holds(rt, results.totals.replaceable == count, "what is counted");
-    assert_holds(rt, is_said == (count == 1), "what is said");
+    Ok(results.totals.replaceable == count && is_said == (count == 1))
 }
