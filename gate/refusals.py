@@ -339,8 +339,8 @@ class Test:
         if ran.status == 0:
             return ran, "answered"
         # A test returns its error, or aborts where it expects what it needs.
-        if ran.status in (1, -signal.SIGABRT):
-            if re.search(rb": (AllocError|OutOfMemory|NoThread)$", ran.err + ran.out, re.M):
+        if ran.status > 0 or ran.status == -signal.SIGABRT:
+            if re.search(rb": (AllocError|AllocFailed \{ \.\. \}|OutOfMemory|NoThread)$", ran.err + ran.out, re.M):
                 return ran, "AllocError"
             if re.search(rb": starved$", ran.err + ran.out, re.M):
                 return ran, "starved"
