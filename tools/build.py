@@ -125,17 +125,13 @@ class Crate:
         given = ["--", *words.read_text().splitlines()] if self.is_program and words.is_file() else []
         return ["rt", verb, "--jobs", str(jobs), *([self.option(level)] if self.has_levels() else []), *given]
 
+    def uses(self):
+        """The crates that it uses, `std` among them."""
+        return ["std", *self.line.partition(":")[2].split()]
+
     def prover(self, verb, crates, jobs):
-        """The prover's own words for this crate, a library, over those below it as they were proved in a folder of crates, of which `rt`
-        would prove them again."""
-        kit = toolchain()
-        own = {it.name: f"{crates}/{it.name}/out/rlib" for it in self.all_below()}
-        words = [kit / "bin/rattle", verb, "--crate-name", self.name, "src/lib.rt", "--jobs", str(jobs)]
-        for name in ["std", *self.line.partition(":")[2].split()]:
-            words += ["--extern", f"{name}={own.get(name, kit / 'rlibs')}/{name}.rlib"]
-        for folder in [kit / "rlibs", *own.values()]:
-            words += ["-L", f"dependency={folder}"]
-        return [*words, "--antt-project", kit / "rattle/logic/antt-project.json", "--logic-built", kit / "logic_built"]
+        """The prover's own words for this crate, a library."""
+        return prover(verb, (self.name, "src/lib.rt"), self.uses(), self.all_below(), crates, jobs)
 
     def command_by_ci(self, level, jobs):
         """The same of a static library over crates that `rt ci` built."""
@@ -163,6 +159,19 @@ class Crate:
     def is_built(self, inputs, level):
         file = self.place(level) / "built"
         return file.is_file() and file.read_text() == self.record(inputs, level)
+
+
+def prover(verb, crate, uses, below, crates, jobs):
+    """The prover's own words for a crate, with its root, that uses these, over those below as they were proved in a folder of crates, where
+    `rt` would prove them again."""
+    kit = toolchain()
+    own = {it.name: f"{crates}/{it.name}/out/rlib" for it in below}
+    words = [kit / "bin/rattle", verb, "--crate-name", *crate, "--jobs", str(jobs)]
+    for name in uses:
+        words += ["--extern", f"{name}={own.get(name, kit / 'rlibs')}/{name}.rlib"]
+    for folder in [kit / "rlibs", *own.values()]:
+        words += ["-L", f"dependency={folder}"]
+    return [*words, "--antt-project", kit / "rattle/logic/antt-project.json", "--logic-built", kit / "logic_built"]
 
 
 @functools.lru_cache(maxsize=None)

@@ -211,9 +211,10 @@ def table():
     for name, *others in rows:
         print(f"{name:<20}" + "".join(f"{it:>8}" for it in others).rstrip())
     bodies = sorted(kept("edits"), key=lambda it: -it["seconds"])
-    print(f"\nThe seconds of each crate's wrong bodies, {sum(it['seconds'] for it in bodies):.0f} in all, and how many they are.")
+    all_seconds = sum(it["seconds"] for it in bodies)
+    print(f"\nThe seconds of the wrong bodies, {all_seconds:.0f} in all, how many they are, and in which copies of crates.")
     for it in bodies:
-        print(f"{it['of']:<20}{it['seconds']:>8.0f}{it['edits']:>8}")
+        print(f"{it['seconds']:>8.0f}{it['edits']:>8}  {it['of']}")
     known = [it["known"] for it in kept("known")]
     if known:
         print(f"Proved by an earlier run, and kept: {', '.join(known)}")

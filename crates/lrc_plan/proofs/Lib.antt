@@ -16,3 +16,4 @@ pub mod AnswerLaws
 pub mod RowTrees
 pub mod CheckCounts
 pub mod Stripes
+pub mod PlaceTests

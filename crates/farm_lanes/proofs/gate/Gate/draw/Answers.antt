@@ -1,4 +1,4 @@
-use Rattle.std.proofs.Common.{ap, sym, ◌∙◌, arith}
+use Rattle.std.proofs.Common.{ap, sym, ◌∙◌, arith, rules}
 use Rattle.farm_lanes.specs.GateView.{greatest}
 use Rattle.farm_lanes.proofs.Greatest.{greatest-snoc}
 use Rattle.farm_lanes.proofs.gate.Gate.draw.Goals as goal
@@ -14,3 +14,15 @@ invariant_of-seat g c =
       omega (arith, v.2),
       sym (ap (λ s. greatest s.numbers) d.0 ∙ greatest-snoc c.seat.inside.raw.me.0.numbers c.raw_draw-found.result d.2),
     )
+
+pub returns-then-found-lt-CLOSED-clause-number : goal.returns-then-found-lt-CLOSED-clause-number
+returns-then-found-lt-CLOSED-clause-number g c = search rules
+
+pub returns-then-found-lt-CLOSED-clause-rises : goal.returns-then-found-lt-CLOSED-clause-rises
+returns-then-found-lt-CLOSED-clause-rises g c = search rules
+
+pub returns-then-found-lt-CLOSED-clause-whole : goal.returns-then-found-lt-CLOSED-clause-whole
+returns-then-found-lt-CLOSED-clause-whole g c = search rules
+
+pub returns-then-found-lt-CLOSED-clause-refused : goal.returns-then-found-lt-CLOSED-clause-refused
+returns-then-found-lt-CLOSED-clause-refused g c = search rules

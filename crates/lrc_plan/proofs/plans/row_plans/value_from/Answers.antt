@@ -8,6 +8,12 @@ use Rattle.lrc_plan.proofs.ReductionRows.{reduced_rows}
 use Rattle.lrc_plan.proofs.Values.{pivot_row}
 use Rattle.lrc_plan.proofs.plans.row_plans.value_from.Goals as goal
 
+pub returns-in-Some-clause-value : goal.returns-in-Some-clause-value
+returns-in-Some-clause-value c = c.in-Some.ensures.0
+
+pub returns-in-Some-clause-local : goal.returns-in-Some-clause-local
+returns-in-Some-clause-local c = λ is. c.in-Some.ensures.1
+
 pub returns-in_default-row_with_pivot-clause-value : goal.returns-in_default-row_with_pivot-clause-value
 returns-in_default-row_with_pivot-clause-value c =
     free_differs (tables_of c.args.code) (is_in c.args.survivors) (coef_of c.args.reduced.now)

@@ -28,3 +28,9 @@ returns-in_ok-second-in-Sum g t c =
     rw (c.in-Sum.is, e) (scaled_sum c.args.factor c.args.request.now (form_of c.in-Sum.left.value)
     (form_of c.in-Sum.right.value) c.in_ok-sum-in-Sum.sum.items c.in_ok-second-in-Sum.second.items
     c.add_into.new.dst first second sum (omega (arith, first.len)))
+
+pub join+arg2-returns : goal.join+arg2-returns
+join+arg2-returns g t c = rw c.deref.ensures at c.evaluate_forked.ensures
+
+pub join+arg3-returns : goal.join+arg3-returns
+join+arg3-returns g t c = rw c.deref.ensures at c.evaluate_forked.ensures

@@ -1,4 +1,4 @@
-use Rattle.std.proofs.Common.{◌≡◌, length, ap, sym, subst, arith, refl, false}
+use Rattle.std.proofs.Common.{◌≡◌, length, ap, sym, subst, arith, refl, false, rules}
 use Rattle.crossbeam_channel.specs.Claims.{view}
 use Rattle.farm_lanes.specs.LaneEnds.{PutView}
 use Rattle.farm_lanes.specs.LaneRecord.{is_end}
@@ -17,3 +17,6 @@ invariant_of-self g c =
       omega (arith, inv.1.counted, c.requires, ap (λ (e : PutView _). length e.put) c.self.view_is),
       subst (Each (λ x. is_end x ≡ false)) (sym a.1) (each_snoc (λ x. is_end x ≡ false) _ _ inv.3 refl),
     )
+
+pub returns : goal.returns
+returns g c = search rules

@@ -1,4 +1,4 @@
-use Rattle.std.proofs.Common.{◌≡◌, Bool, true, false, List, [], ◌∷◌, Option, nat_eq, refl, sym, ◌∙◌, ap₂, subst}
+use Rattle.std.proofs.Common.{◌≡◌, Bool, true, false, List, [], ◌∷◌, Option, refl, sym, ap₂, subst}
 use Rattle.std.specs.Prelude.{◌&&◌}
 use Rattle.std.proofs.Math.Bool.{beq}
 use lib.Pointwise.{pointwise}
@@ -6,12 +6,11 @@ use Rattle.lrc_code.specs.declared.codes.Code.{Code}
 use Rattle.lrc_code.specs.declared.codes.Code.TheVariants.{Narrow, Wide}
 use Rattle.lrc_code.specs.declared.places.Place.{Place}
 use Rattle.lrc_code.specs.Codes.{tables_of}
-use Rattle.lrc_code.specs.declared.places.Place.TheVariants.{X0, X1, X2, X3, X4, X5, Y0, Y1, Y2, Y3, Y4, Y5, Px, Py, P0, P1}
-use Rattle.lrc_code.specs.Places.{index_of}
 use Rattle.lrc_code.specs.Sets.{is_in}
 use Rattle.lrc_code.proofs.PlaceSums.{same_place-eq}
 use Rattle.lrc_plan.specs.Form.{Form}
 use Rattle.lrc_plan.specs.Planned.{IsPlan, check_forms, value_form}
+use Rattle.lrc_plan.proofs.PlaceTests.{same_place-eq_true}
 use Rattle.lrc_plan.proofs.plans.remembered.Known.plan_for.Goals as goal
 
 same_bool : (a b : Bool) → beq a b ≡ true → a ≡ b
@@ -46,27 +45,8 @@ same_code Narrow Wide h = absurd (cc)
 same_code Wide Narrow h = absurd (cc)
 same_code Wide Wide h = refl
 
--- the places' tags are their indexes
-index_is : (p : Place) → denote.Enum.Declared.tag_of Rattle.lrc_code.specs.contracts.places.Place.the_type p ≡ index_of p
-index_is X0 = refl
-index_is X1 = refl
-index_is X2 = refl
-index_is X3 = refl
-index_is X4 = refl
-index_is X5 = refl
-index_is Y0 = refl
-index_is Y1 = refl
-index_is Y2 = refl
-index_is Y3 = refl
-index_is Y4 = refl
-index_is Y5 = refl
-index_is Px = refl
-index_is Py = refl
-index_is P0 = refl
-index_is P1 = refl
-
 same_target : (p q : Place) → true ≡ denote.Enum.Bare.sameb Rattle.lrc_code.specs.contracts.places.Place.the_type p q → p ≡ q
-same_target p q h = same_place-eq p q (sym (ap₂ nat_eq (index_is p) (index_is q)) ∙ sym h)
+same_target p q h = same_place-eq p q (same_place-eq_true p q _ h refl)
 
 pub returns-then-eq-3 : goal.returns-then-eq-3
 returns-then-eq-3 c =
