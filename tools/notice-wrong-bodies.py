@@ -15,7 +15,8 @@ from edits import edited  # noqa: E402
 
 ROOT = pathlib.Path(__file__).resolve().parent.parent
 
-# The crates in which the tests of a crate's calls are, if not in the crate itself; those of lrc_c are in C.
+# The crates in which the tests of a crate's calls are, if not in the crate itself; those of lrc_c are in C, and those of line_mode,
+# command_line and most of farm_lists are scripts over what is built.
 TESTS = {
     "lrc_field": ["lrc_tests"],
     "lrc_code": ["lrc_tests"],
@@ -33,8 +34,8 @@ TESTS = {
     "farm_files": ["farm_files_tests"],
     "store_repair": ["store_repair_tests"],
     "stores": ["store_repair_tests"],
-    "line_mode": ["line_mode_tests"],
-    "command_line": ["line_mode_tests"],
+    "line_mode": [],
+    "command_line": [],
 }
 
 # Tests that a wrong body keeps from ending are stopped after so many seconds, and have noticed it.

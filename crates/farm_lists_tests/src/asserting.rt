@@ -1,8 +1,35 @@
-//! The assertion that all tests share: a test that has values to drop is proved faster if it calls it than if it asserts itself.
+//! Where the tests of this crate end: in assertions, and where memory is refused. The proof of a function grows with each of its ends and
+//! with what it owns there, so the other functions have one end each.
+ghost use Rattle.std.specs.Prelude.{◌≡◌, Ok};
+
+use std::alloc::AllocError;
 use std::fmt::Debug;
 use std::process::Abort;
 
 /// Asserts that something holds of a case, and names the case where it doesn't.
 pub(crate) fn assert_holds<T: Copy + Debug>(rt: &impl Abort, holds: bool, case: T) {
     assert!(rt; holds, "{case:?}");
+}
+
+/// What a call gives that is granted its memory. Where it is refused the test ends, in the words of one that gives the error.
+pub(crate) fn given<T, E: Into<AllocError>>(rt: &impl Abort, outcome: Result<T, E>) -> T
+    ensures { outcome ≡ Ok result }
+{
+    match outcome {
+        Ok(value) => value,
+        Err(refusal) => {
+            let error: AllocError = refusal.into();
+            rt.panic(format_args!("Error: {error:?}"))
+        }
+    }
+}
+
+/// Whether bytes are the same: the proof of a function that compares them itself takes longer.
+pub(crate) fn are_same_bytes(one: &[u8], other: &[u8]) -> bool {
+    one == other
+}
+
+/// And texts.
+pub(crate) fn are_same_texts(one: &str, other: &str) -> bool {
+    one == other
 }

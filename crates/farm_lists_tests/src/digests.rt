@@ -1,11 +1,11 @@
 //! The digests of the rebuilt fragments of several racks, in lanes and threads, each against the crate `sha2`.
 ghost use Rattle.std.specs.Prelude.{◌<◌};
 
-use crate::asserting::assert_holds;
+use crate::asserting::{assert_holds, given};
 use farm_reports::digests_of_racks;
 use lrc_code::{Bytes, Outcome};
 use sha2::{Digest, Sha256};
-use std::alloc::{AllocError, Global};
+use std::process::Abort;
 use std::thread::Threads;
 
 /// The digest of a million times `a` in FIPS 180-2.
@@ -22,14 +22,9 @@ enum Lengths {
     Mixed,
 }
 
-/// A fragment of bytes that all are its number.
-fn fragment(
-    alloc: Global,
-    lengths: &Lengths,
-    longer: usize,
-    number: u8,
-) -> Result<Outcome, AllocError> {
-    let length = match lengths {
+/// How long a fragment is.
+fn length_of(lengths: &Lengths, number: u8) -> usize {
+    match lengths {
         Lengths::Equal => 100,
         Lengths::Broken => match number {
             3 => 101,
@@ -37,80 +32,85 @@ fn fragment(
             _ => 64,
         },
         Lengths::Mixed => 55 + number as usize,
-    };
-    let bytes = vec![in alloc; number; length.saturating_add(longer)]?;
-    Ok(Outcome::Rebuilt(Bytes::new(bytes)))
+    }
 }
 
-/// A rack with the rebuilt fragments from one number on and before another, other outcomes between them, and one after them.
+/// A rebuilt fragment of so many bytes.
+fn rebuilt(rt: &(impl Abort + AllocGlobal), byte: u8, length: usize) -> Outcome {
+    Outcome::Rebuilt(Bytes::new(given(rt, vec![in rt.alloc(); byte; length])))
+}
+
+/// The answers of a rack, each with the number of its feed.
+type Rack = Vec<(usize, Outcome)>;
+
+/// A rack with the rebuilt fragments from one number on and before another, each of bytes that all are its number, other outcomes between
+/// them, and one after them.
 fn rack_of(
-    alloc: Global,
+    rt: &(impl Abort + AllocGlobal),
     lengths: &Lengths,
     longer: usize,
     first: u8,
     end: u8,
-) -> Result<Vec<(usize, Outcome)>, AllocError> {
-    let mut rack = Vec::new(alloc);
+) -> Rack {
+    let mut rack = Vec::new(rt.alloc());
     for number in first..end {
         if number % 3 == 0 {
-            rack.push((0, Outcome::Several))?;
+            given(rt, rack.push((0, Outcome::Several)));
         }
-        rack.push((1, fragment(alloc, lengths, longer, number)?))?;
+        let length = length_of(lengths, number).saturating_add(longer);
+        given(rt, rack.push((1, rebuilt(rt, number, length))));
         if number % 5 == 1 {
-            rack.push((0, Outcome::Contradiction))?;
+            given(rt, rack.push((0, Outcome::Contradiction)));
         }
     }
-    rack.push((0, Outcome::Contradiction))?;
-    Ok(rack)
+    given(rt, rack.push((0, Outcome::Contradiction)));
+    rack
 }
 
 /// Racks with so many rebuilt fragments, six in each but the last, and a rack without answers after each.
 fn racks_of(
-    alloc: Global,
+    rt: &(impl Abort + AllocGlobal),
     lengths: &Lengths,
     longer: usize,
     fragments: u8,
-) -> Result<Vec<Vec<(usize, Outcome)>>, AllocError> {
-    let mut racks = Vec::new(alloc);
+) -> Vec<Rack> {
+    let mut racks = Vec::new(rt.alloc());
     for group in 0..=fragments / 6 {
         let first = group.saturating_mul(6);
         let end = fragments.min(first.saturating_add(6));
-        racks.push(rack_of(alloc, lengths, longer, first, end)?)?;
-        racks.push(Vec::new(alloc))?;
+        given(rt, racks.push(rack_of(rt, lengths, longer, first, end)));
+        given(rt, racks.push(Vec::new(rt.alloc())));
     }
-    Ok(racks)
+    racks
+}
+
+/// The digest of an outcome's fragment by the crate `sha2`; none for another outcome.
+fn plain_digest(outcome: &Outcome) -> Option<[u8; 32]> {
+    match outcome {
+        Outcome::Rebuilt(bytes) => Some(Sha256::digest(bytes.as_slice())),
+        Outcome::Contradiction | Outcome::Several => None,
+    }
 }
 
 /// Whether these are the digests of the fragments, made one after the other by the crate `sha2`, and none for the other outcomes.
-fn are_plain(made: &[Option<[u8; 32]>], racks: &[Vec<(usize, Outcome)>]) -> bool {
-    let mut digests = made.iter();
-    let mut plain = true;
+fn are_plain(made: &[Option<[u8; 32]>], racks: &[Rack]) -> bool {
+    let mut at = 0usize;
+    let mut are = true;
     for rack in racks {
-        for (_, outcome) in rack.as_slice() {
-            let digest: Option<[u8; 32]> = match outcome {
-                Outcome::Rebuilt(bytes) => Some(Sha256::digest(bytes.as_slice())),
-                Outcome::Contradiction | Outcome::Several => None,
-            };
-            plain = plain && digests.next() == Some(&digest);
+        for number in 0..rack.len() {
+            are &= made.get(at) == Some(&plain_digest(&rack[number].1));
+            at = at.saturating_add(1);
         }
     }
-    plain && digests.next().is_none()
+    are & (at == made.len())
 }
 
-/// Whether the digests that so many threads make of so many fragments are the plain ones.
-fn agree<R: Threads + Sync>(
-    rt: &R,
-    alloc: Global,
-    lengths: &Lengths,
-    longer: usize,
-    fragments: u8,
-    threads: usize,
-) -> Result<bool, AllocError>
+/// Whether the digests that so many threads make of these racks are the plain ones.
+fn agree<R: Abort + AllocGlobal + Threads + Sync>(rt: &R, racks: &[Rack], threads: usize) -> bool
     requires { 0 < threads }
 {
-    let racks = racks_of(alloc, lengths, longer, fragments)?;
-    let made = digests_of_racks(rt, alloc, racks.as_slice(), threads)?;
-    Ok(are_plain(made.as_slice(), racks.as_slice()))
+    let made = given(rt, digests_of_racks(rt, rt.alloc(), racks, threads));
+    are_plain(made.as_slice(), racks)
 }
 
 /// How many fragments there are: around one and two groups of eight, and around the grains that threads take.
@@ -126,10 +126,10 @@ static LENGTHS: [(Lengths, &str); 3] = [
 #[test]
 fn digests_of_any_lengths_agree_with_sha2(rt: HostRuntime) {
     for (lengths, name) in &LENGTHS {
-        for fragments in &FRAGMENTS {
-            let alone = agree(&rt, rt.alloc(), lengths, 0, *fragments, 1) == Ok(true);
-            let in_threads = agree(&rt, rt.alloc(), lengths, 0, *fragments, 16) == Ok(true);
-            assert_holds(&rt, alone && in_threads, (*name, *fragments));
+        for number in 0..FRAGMENTS.len() {
+            let racks = racks_of(&rt, lengths, 0, FRAGMENTS[number]);
+            let agree = agree(&rt, &racks, 1) & agree(&rt, &racks, 16);
+            assert_holds(&rt, agree, (*name, FRAGMENTS[number]));
         }
     }
 }
@@ -138,42 +138,29 @@ fn digests_of_any_lengths_agree_with_sha2(rt: HostRuntime) {
 #[test]
 fn digests_in_threads_agree_with_sha2(rt: HostRuntime) {
     for (lengths, name) in &LENGTHS {
-        let are = agree(&rt, rt.alloc(), lengths, 100_000, 33, 16) == Ok(true);
-        assert_holds(&rt, are, *name);
+        let racks = racks_of(&rt, lengths, 100_000, 33);
+        assert_holds(&rt, agree(&rt, &racks, 16), *name);
     }
-}
-
-/// Two grains and one alone, for as many threads as can be made.
-#[test]
-fn three_threads_make_the_known_digest(rt: HostRuntime) -> Result<(), AllocError> {
-    let made = {
-        let racks = [rack_of_million(rt.alloc())?];
-        digests_of_racks(&rt, rt.alloc(), racks.as_slice(), 3)?
-    };
-    assert_holds(&rt, are_of_million(made.as_slice()), "a digest");
-    Ok(())
-}
-
-/// Whether every other digest, from the first on, is that of a million times `a`, and there are no others.
-fn are_of_million(digests: &[Option<[u8; 32]>]) -> bool {
-    let mut is_fragment = true;
-    for digest in digests {
-        let expected = if is_fragment { Some(MILLION) } else { None };
-        if *digest != expected {
-            return false;
-        }
-        is_fragment = !is_fragment;
-    }
-    digests.len() == 66
 }
 
 /// A rack with 33 fragments of a million times `a`, and an outcome without a fragment after each.
-fn rack_of_million(alloc: Global) -> Result<Vec<(usize, Outcome)>, AllocError> {
-    let mut rack = Vec::new(alloc);
+fn rack_of_million(rt: &(impl Abort + AllocGlobal)) -> Rack {
+    let mut rack = Vec::new(rt.alloc());
     for _ in 0..33 {
-        let bytes = Bytes::new(vec![in alloc; b'a'; 1_000_000]?);
-        rack.push((0, Outcome::Rebuilt(bytes)))?;
-        rack.push((0, Outcome::Several))?;
+        given(rt, rack.push((0, rebuilt(rt, b'a', 1_000_000))));
+        given(rt, rack.push((0, Outcome::Several)));
     }
-    Ok(rack)
+    rack
+}
+
+/// Two grains and one alone, for as many threads as can be made. Every other digest, from the first on, is that of a million times `a`.
+#[test]
+fn three_threads_make_the_known_digest(rt: HostRuntime) {
+    let racks = [rack_of_million(&rt)];
+    let made = given(&rt, digests_of_racks(&rt, rt.alloc(), racks.as_slice(), 3));
+    assert_holds(&rt, made.len() == 66, made.len());
+    for number in 0..made.len() {
+        let wanted = if number % 2 == 0 { Some(MILLION) } else { None };
+        assert_holds(&rt, made[number] == wanted, number);
+    }
 }

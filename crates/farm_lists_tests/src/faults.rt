@@ -1,24 +1,14 @@
 //! How the command `farm` ends: statuses and fault lines; and the texts of the faults of lists, requests and serving, written out.
-use crate::asserting::assert_holds;
+use crate::asserting::{are_same_texts, assert_holds, given};
 use farm_lists::ListFault;
 use farm_reading::{ServeFault, farm_status, fault_line};
 use lrc_code::RequestFault;
-use std::alloc::{AllocError, Global};
-use std::fmt::{Debug, Display};
+use std::fmt::Display;
 use std::process::Abort;
 
-/// Whether a fault ends the program with this status and this line.
-fn ends_with(alloc: Global, fault: ServeFault, status: u8, line: &str) -> bool {
-    let is_line = match fault_line(alloc, &fault) {
-        Ok(shown) => shown.as_str() == line,
-        Err(_) => false,
-    };
-    let ended: Result<(), ServeFault> = Err(fault);
-    is_line && farm_status(&ended) == status
-}
-
-/// Faults of no list or of no record, with their status and line.
-static OF_THE_WHOLE: [(ServeFault, u8, &str); 7] = [
+/// Faults with their status and line: those of no list or of no record, and those of the list of a rack's feed, whose line names the list's
+/// file, and gives both numbers of a refused request.
+static ENDS: [(ServeFault, u8, &str); 17] = [
     (ServeFault::TooManyRacks, 1, "E18"),
     (ServeFault::BadFeeds, 1, "E28"),
     (ServeFault::NoRacks, 1, "E23"),
@@ -34,79 +24,125 @@ static OF_THE_WHOLE: [(ServeFault, u8, &str); 7] = [
         4,
         "E16",
     ),
-];
-
-/// Faults of the list of a rack's feed, with their line: it names the list's file, and gives both numbers of a refused request.
-static OF_A_LIST: [(usize, usize, ListFault, &str); 10] = [
-    (0, 0, ListFault::BadHeader, "rack0.csv: E19"),
-    (7, 0, ListFault::InputTooLong, "rack7.csv: E25"),
-    (15, 0, ListFault::TooManyOrders, "rack15.csv: E26"),
     (
-        3,
-        0,
-        ListFault::BadRecord { number: 4096 },
+        ServeFault::List {
+            rack: 0,
+            feed: 0,
+            fault: ListFault::BadHeader,
+        },
+        1,
+        "rack0.csv: E19",
+    ),
+    (
+        ServeFault::List {
+            rack: 7,
+            feed: 0,
+            fault: ListFault::InputTooLong,
+        },
+        1,
+        "rack7.csv: E25",
+    ),
+    (
+        ServeFault::List {
+            rack: 15,
+            feed: 0,
+            fault: ListFault::TooManyOrders,
+        },
+        1,
+        "rack15.csv: E26",
+    ),
+    (
+        ServeFault::List {
+            rack: 3,
+            feed: 0,
+            fault: ListFault::BadRecord { number: 4096 },
+        },
+        1,
         "rack3.csv: record 4096: E20",
     ),
-    (0, 1, ListFault::BadHeader, "rack0.feed1.csv: E19"),
     (
-        12,
-        3,
-        ListFault::BadRecord { number: 2 },
+        ServeFault::List {
+            rack: 0,
+            feed: 1,
+            fault: ListFault::BadHeader,
+        },
+        1,
+        "rack0.feed1.csv: E19",
+    ),
+    (
+        ServeFault::List {
+            rack: 12,
+            feed: 3,
+            fault: ListFault::BadRecord { number: 2 },
+        },
+        1,
         "rack12.feed3.csv: record 2: E20",
     ),
     (
-        10,
-        0,
-        ListFault::Refused {
-            number: 1,
-            fault: RequestFault::BadStripe,
+        ServeFault::List {
+            rack: 10,
+            feed: 0,
+            fault: ListFault::Refused {
+                number: 1,
+                fault: RequestFault::BadStripe,
+            },
         },
+        1,
         "rack10.csv: record 1: E21 E1",
     ),
     (
-        10,
-        0,
-        ListFault::Refused {
-            number: 20,
-            fault: RequestFault::BadLength,
+        ServeFault::List {
+            rack: 10,
+            feed: 0,
+            fault: ListFault::Refused {
+                number: 20,
+                fault: RequestFault::BadLength,
+            },
         },
+        1,
         "rack10.csv: record 20: E21 E2",
     ),
     (
-        10,
-        0,
-        ListFault::Refused {
-            number: 3,
-            fault: RequestFault::Repeated,
+        ServeFault::List {
+            rack: 10,
+            feed: 0,
+            fault: ListFault::Refused {
+                number: 3,
+                fault: RequestFault::Repeated,
+            },
         },
+        1,
         "rack10.csv: record 3: E21 E3",
     ),
     (
-        10,
-        0,
-        ListFault::Refused {
-            number: 4,
-            fault: RequestFault::NotLost,
+        ServeFault::List {
+            rack: 10,
+            feed: 0,
+            fault: ListFault::Refused {
+                number: 4,
+                fault: RequestFault::NotLost,
+            },
         },
+        1,
         "rack10.csv: record 4: E21 E4",
     ),
 ];
+
+/// Whether a fault ends the program with this status and this line.
+fn ends_with(rt: &(impl Abort + AllocGlobal), row: &(ServeFault, u8, &str)) -> bool {
+    let line = given(rt, fault_line(rt.alloc(), &row.0));
+    let ended: Result<(), ServeFault> = Err(row.0);
+    are_same_texts(&line, row.2) & (farm_status(&ended) == row.1)
+}
 
 /// Served folders end with status 0.
 #[test]
 fn faults_end_with_their_number_and_name_their_list(rt: HostRuntime) {
     let served: Result<(), ServeFault> = Ok(());
-    assert_holds(&rt, farm_status(&served) == 0, "served");
-    for (fault, status, line) in &OF_THE_WHOLE {
-        assert_holds(&rt, ends_with(rt.alloc(), *fault, *status, line), *line);
-    }
-    for (rack, feed, fault, line) in &OF_A_LIST {
-        let fault = ServeFault::List {
-            rack: *rack,
-            feed: *feed,
-            fault: *fault,
-        };
-        assert_holds(&rt, ends_with(rt.alloc(), fault, 1, line), *line);
+    assert_holds(&rt, farm_status(&served) == 0, 0usize);
+    for number in 0..ENDS.len() {
+        let row = &ENDS[number];
+        assert_holds(&rt, ends_with(&rt, row), row.2);
     }
 }
 
@@ -172,21 +208,22 @@ static SERVE_FAULTS: [(ServeFault, &str); 7] = [
     (ServeFault::OutOfMemory, "out of memory"),
 ];
 
+/// Whether a fault says this.
+fn says<T: Display>(rt: &(impl Abort + AllocGlobal), fault: &T, text: &str) -> bool {
+    are_same_texts(&given(rt, format!(in rt.alloc(); "{fault}")), text)
+}
+
 /// Asserts that each fault says its text.
-fn assert_said<T: Display + Debug>(
-    rt: &(impl Abort + AllocGlobal),
-    faults: &[(T, &str)],
-) -> Result<(), AllocError> {
-    for (fault, text) in faults {
-        let said = format!(in rt.alloc(); "{fault}")?;
-        assert_holds(rt, said.as_str() == *text, fault);
+fn assert_said<T: Display>(rt: &(impl Abort + AllocGlobal), faults: &[(T, &str)]) {
+    for number in 0..faults.len() {
+        let row = &faults[number];
+        assert_holds(rt, says(rt, &row.0, row.1), row.1);
     }
-    Ok(())
 }
 
 #[test]
-fn faults_say_what_failed_and_the_limits(rt: HostRuntime) -> Result<(), AllocError> {
-    assert_said(&rt, &REQUEST_FAULTS)?;
-    assert_said(&rt, &LIST_FAULTS)?;
-    assert_said(&rt, &SERVE_FAULTS)
+fn faults_say_what_failed_and_the_limits(rt: HostRuntime) {
+    assert_said(&rt, &REQUEST_FAULTS);
+    assert_said(&rt, &LIST_FAULTS);
+    assert_said(&rt, &SERVE_FAULTS);
 }

@@ -9,15 +9,15 @@ use std::process::Abort;
 
 /// Asserts that each digest is that of its message by the crate `sha2`.
 fn assert_agree<T: AsSlice<u8>>(rt: &impl Abort, messages: &[T], found: &[[u8; 32]]) {
-    for (message, digest) in messages.iter().zip(found) {
-        let plain: [u8; 32] = Sha256::digest(message.as_slice());
-        assert_holds(rt, *digest == plain, digest);
+    for number in 0..messages.len().min(found.len()) {
+        let plain: [u8; 32] = Sha256::digest(messages[number].as_slice());
+        assert_holds(rt, found[number] == plain, number);
     }
 }
 
 /// The digests of eight messages of one length, which the crate `sha2` makes too.
 fn checked_digests(rt: &impl Abort, messages: &[&[u8]; 8]) -> [[u8; 32]; 8] {
-    assert!(rt; are_of_one_length(messages));
+    assert_holds(rt, are_of_one_length(messages), messages[0].len());
     let found = digests_of_eight(messages);
     assert_agree(rt, messages, &found);
     found
@@ -78,20 +78,19 @@ static PUBLISHED: [(&[u8], &[u8; 32]); 4] = [
     ),
 ];
 
-/// A message in each lane, beside other messages of its length.
+/// The digest of a message in a lane, beside other messages of its length.
+fn digest_in_lane(rt: &impl Abort, message: &[u8], lane: usize) -> [u8; 32] {
+    let mut messages = [OTHER.get(..message.len()).unwrap_or(&[]); 8];
+    messages[lane.min(7)] = message;
+    checked_digests(rt, &messages)[lane.min(7)]
+}
+
 #[test]
 fn published_messages_have_their_digests(rt: HostRuntime) {
     for (message, wanted) in &PUBLISHED {
-        let other = OTHER.get(..message.len()).unwrap_or(&[]);
         for lane in 0..8usize {
-            let mut messages = [other; 8];
-            messages[lane] = *message;
-            let found = checked_digests(&rt, &messages);
-            assert_holds(
-                &rt,
-                found[lane] == **wanted,
-                (str::from_utf8(message), lane),
-            );
+            let found = digest_in_lane(&rt, message, lane);
+            assert_holds(&rt, found == **wanted, (message.len(), lane));
         }
     }
 }
@@ -166,9 +165,10 @@ fn every_length_has_its_digests(rt: HostRuntime) {
     for len in 0..301usize {
         digests_of_rows(&rt, len);
     }
-    for (len, wanted) in &AROUND_A_BLOCK {
-        let found = digests_of_rows(&rt, 1000.min(*len));
-        assert_holds(&rt, digest_of_digests(&found) == **wanted, *len);
+    for number in 0..AROUND_A_BLOCK.len() {
+        let row = &AROUND_A_BLOCK[number];
+        let found = digest_of_digests(&digests_of_rows(&rt, 1000.min(row.0)));
+        assert_holds(&rt, found == *row.1, row.0);
     }
 }
 
@@ -186,13 +186,19 @@ static MIXED: [usize; 40] = [
     120, 120, 120, 120, 120, 120, 120, 120, 120, 120, 120, 0, 1, 1, 1, 1, 1,
 ];
 
+/// Messages of these lengths.
+fn mixed_messages(row: &[u8; 1000]) -> [&[u8]; 40] {
+    let mut messages = [row.as_slice(); 40];
+    for i in 0..40usize {
+        messages[i] = row[i..].get(..MIXED[i]).unwrap_or(row);
+    }
+    messages
+}
+
 #[test]
 fn messages_of_mixed_lengths_agree_with_sha2(rt: HostRuntime) {
     let row = rows_of(200)[3];
-    let mut messages = [row.as_slice(); 40];
-    for i in 0..40usize {
-        messages[i] = row[i..].get(..MIXED[i]).unwrap_or(&row);
-    }
+    let messages = mixed_messages(&row);
     let mut found = [[0u8; 32]; 40];
     digests(&messages, &mut found);
     assert_agree(&rt, &messages, &found);
@@ -212,30 +218,37 @@ fn owned_messages_agree_with_sha2(rt: HostRuntime) {
     assert_agree(&rt, &messages, &found);
 }
 
+/// Whether eight messages, of which the one in a lane is shorter, are taken for some of one length.
+fn are_taken_for_one_length(lane: usize) -> bool {
+    let mut eight: [&[u8]; 8] = [&[7; 9]; 8];
+    if lane < 8 {
+        eight[lane] = &[7; 8];
+    }
+    are_of_one_length(&eight)
+}
+
 #[test]
 fn another_length_in_any_lane_is_seen(rt: HostRuntime) {
-    let long: &[u8] = &[7; 9];
-    let short: &[u8] = &[7; 8];
-    assert_holds(&rt, are_of_one_length(&[long; 8]), "one length");
-    for lane in 0..8usize {
-        let mut eight = [long; 8];
-        eight[lane] = short;
-        assert_holds(&rt, !are_of_one_length(&eight), lane);
+    for lane in 0..=8usize {
+        assert_holds(&rt, are_taken_for_one_length(lane) == (lane == 8), lane);
     }
 }
 
 /// 192 bytes of 61 in two pieces, and then a byte that is another one in each lane.
-#[test]
-fn messages_come_in_pieces(rt: HostRuntime) {
+fn digests_of_pieces() -> [[u8; 32]; 8] {
     let one: &[u8] = &[0x61; 64];
     let two: &[u8] = &[0x61; 128];
     let mut hasher = HasherOfEight::new();
     hasher.update(&[two; 8]);
     hasher.update(&[one; 8]);
-    let found = hasher.finalize(&[b"0", b"1", b"2", b"3", b"4", b"5", b"6", b"7"]);
+    hasher.finalize(&[b"0", b"1", b"2", b"3", b"4", b"5", b"6", b"7"])
+}
+
+#[test]
+fn messages_come_in_pieces(rt: HostRuntime) {
     let mut messages = [[0x61u8; 193]; 8];
     for lane in 0..8usize {
         messages[lane][192] = b'0' + lane as u8;
     }
-    assert_agree(&rt, &messages, &found);
+    assert_agree(&rt, &messages, &digests_of_pieces());
 }

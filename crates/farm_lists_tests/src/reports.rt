@@ -1,10 +1,10 @@
 //! Reports, by the calls that make them alone.
-use crate::asserting::assert_holds;
+use crate::asserting::{are_same_bytes, assert_holds, given};
 use crate::samples::{EMPTY_REPORT, LIST, REPORT, REPORT_WITHOUT_PX};
-use farm_lists::{ListFault, Record, count_requests, read_list};
+use farm_lists::{Record, count_requests, read_list};
 use farm_reports::{ReportRow, ReportShape, merged_report_text, report_text};
 use lrc_code::{Bytes, Outcome, Place};
-use std::alloc::{AllocError, Global};
+use std::process::Abort;
 use std::slice;
 
 /// One request of the (12,2,2) code.
@@ -17,45 +17,40 @@ const WIDE_REPORT: &[u8] = b"number,stripe,target,length,outcome,digest,unread,c
 ";
 
 /// The fragment `abc`.
-fn rebuilt(alloc: Global) -> Result<Outcome, AllocError> {
-    Ok(Outcome::Rebuilt(Bytes::new(Vec::from_slice(alloc, b"abc")?)))
+fn rebuilt(rt: &(impl Abort + AllocGlobal)) -> Outcome {
+    Outcome::Rebuilt(Bytes::new(given(rt, Vec::from_slice(rt.alloc(), b"abc"))))
 }
 
-/// Whether the report on the one request of a list is this one. Its fragment is rebuilt if none of its survivors is left out; else there
-/// are several.
-fn is_reported(
-    alloc: Global,
-    list: &[u8],
-    unread: &[Place],
-    report: &[u8],
-) -> Result<bool, ListFault> {
-    let outcome = if unread.is_empty() {
-        rebuilt(alloc)?
-    } else {
-        Outcome::Several
-    };
-    let list = read_list(alloc, list)?;
-    let unread = Vec::from_slice(alloc, unread)?;
-    let text = text_of(alloc, list.as_slice(), &outcome, &unread)?;
-    Ok(text.as_slice() == report)
+/// The records of a list.
+fn records_of(rt: &(impl Abort + AllocGlobal), list: &[u8]) -> Vec<Record> {
+    read_list(rt.alloc(), list).expect(rt, "a list")
 }
 
-/// The report on a list of one request, and nothing for another list.
-fn text_of(
-    alloc: Global,
+/// Whether the report on a list of one request is this one.
+fn has_report(
+    rt: &(impl Abort + AllocGlobal),
     list: &[Record],
     outcome: &Outcome,
     unread: &Vec<Place>,
-) -> Result<Vec<u8>, AllocError> {
+    report: &[u8],
+) -> bool {
     if count_requests(list) != 1 {
-        return Ok(Vec::new(alloc));
+        return false;
     }
-    report_text(
-        alloc,
-        list,
-        slice::from_ref(outcome),
-        slice::from_ref(unread),
-    )
+    let outcomes = slice::from_ref(outcome);
+    let text = report_text(rt.alloc(), list, outcomes, slice::from_ref(unread));
+    are_same_bytes(&given(rt, text), report)
+}
+
+/// Whether it is that of a row. The fragment is rebuilt if none of its survivors is left out; else there are several.
+fn is_reported(rt: &(impl Abort + AllocGlobal), row: &(&str, &[u8], &[Place], &[u8])) -> bool {
+    let outcome = if row.2.is_empty() {
+        rebuilt(rt)
+    } else {
+        Outcome::Several
+    };
+    let unread = given(rt, Vec::from_slice(rt.alloc(), row.2));
+    has_report(rt, &records_of(rt, row.1), &outcome, &unread, row.3)
 }
 
 /// Names of cases, lists of one request, the survivors that are left out, and the report.
@@ -67,9 +62,9 @@ static REPORTS: [(&str, &[u8], &[Place], &[u8]); 3] = [
 
 #[test]
 fn a_request_has_its_row(rt: HostRuntime) {
-    for (name, list, unread, report) in &REPORTS {
-        let is = is_reported(rt.alloc(), list, unread, report) == Ok(true);
-        assert_holds(&rt, is, *name);
+    for number in 0..REPORTS.len() {
+        let row = &REPORTS[number];
+        assert_holds(&rt, is_reported(&rt, row), row.0);
     }
 }
 
@@ -80,53 +75,54 @@ rebuild,abc,x0,3,,6-2-2
 rebuild,def,p1,1,,12-2-2
 ";
 
-/// The report of a shape on the rows from one on and before another.
-fn merged(
-    alloc: Global,
-    shape: ReportShape,
-    first: usize,
-    end: usize,
-) -> Result<Vec<u8>, ListFault> {
-    let outcome = rebuilt(alloc)?;
-    let list = read_list(alloc, LIST_OF_ROWS)?;
-    let [
-        Record::Rebuild(wide),
-        Record::Rebuild(narrow),
-        Record::Rebuild(last),
-    ] = list.as_slice()
-    else {
-        return Err(ListFault::BadHeader);
-    };
-    let rows = [
-        ReportRow {
-            feed: 3,
-            listed: wide,
-            outcome: &Outcome::Contradiction,
-            unread: &[],
-        },
-        ReportRow {
-            feed: 0,
-            listed: narrow,
-            outcome: &outcome,
-            unread: &[],
-        },
-        ReportRow {
-            feed: 3,
-            listed: last,
-            outcome: &Outcome::Several,
-            unread: &[Place::Y3, Place::Px],
-        },
-    ];
-    let rows = rows.get(first..end).unwrap_or(&[]);
-    Ok(merged_report_text(alloc, shape, rows)?)
+/// The rows on these three requests, with their outcomes.
+fn rows_on<'a>(
+    rt: &impl Abort,
+    list: &'a [Record],
+    outcomes: &'a [Outcome; 3],
+) -> [ReportRow<'a>; 3] {
+    match list {
+        [
+            Record::Rebuild(wide),
+            Record::Rebuild(narrow),
+            Record::Rebuild(last),
+        ] => [
+            ReportRow {
+                feed: 3,
+                listed: wide,
+                outcome: &outcomes[0],
+                unread: &[],
+            },
+            ReportRow {
+                feed: 0,
+                listed: narrow,
+                outcome: &outcomes[1],
+                unread: &[],
+            },
+            ReportRow {
+                feed: 3,
+                listed: last,
+                outcome: &outcomes[2],
+                unread: &[Place::Y3, Place::Px],
+            },
+        ],
+        _ => rt.panic("other requests"),
+    }
 }
 
-/// Whether the report of a shape on the rows from one on and before another is this one.
-fn is_merged(alloc: Global, shape: ReportShape, first: usize, end: usize, report: &[u8]) -> bool {
-    match merged(alloc, shape, first, end) {
-        Ok(text) => text.as_slice() == report,
-        Err(_) => false,
-    }
+/// Whether the report of a row's shape on its rows is its report.
+fn is_merged(
+    rt: &(impl Abort + AllocGlobal),
+    rows: &[ReportRow],
+    row: &(bool, bool, usize, usize, &[u8]),
+) -> bool {
+    let shape = ReportShape {
+        feeds: row.0,
+        codes: row.1,
+    };
+    let rows = rows.get(row.2..row.3).unwrap_or(&[]);
+    let text = merged_report_text(rt.alloc(), shape, rows);
+    are_same_bytes(&given(rt, text), row.4)
 }
 
 /// Whether there is a column of feeds, and one of codes; the first row, and the one after the last; and the report: without rows, on a
@@ -178,12 +174,10 @@ static MERGED: [(bool, bool, usize, usize, &[u8]); 6] = [
 
 #[test]
 fn rows_name_their_feeds_and_codes(rt: HostRuntime) {
-    for (feeds, codes, first, end, report) in &MERGED {
-        let shape = ReportShape {
-            feeds: *feeds,
-            codes: *codes,
-        };
-        let is = is_merged(rt.alloc(), shape, *first, *end, report);
-        assert_holds(&rt, is, (*feeds, *codes, *end));
+    let outcomes = [Outcome::Contradiction, rebuilt(&rt), Outcome::Several];
+    let list = records_of(&rt, LIST_OF_ROWS);
+    let rows = rows_on(&rt, &list, &outcomes);
+    for number in 0..MERGED.len() {
+        assert_holds(&rt, is_merged(&rt, &rows, &MERGED[number]), number);
     }
 }
