@@ -1,9 +1,6 @@
 //! Repairs a stripe of a store in memory: what is lost is rebuilt from what survives, and gets its name.
-#![tactic(auto)]
-
 use lrc_code::{Code, Place};
 use std::alloc::{AllocError, Global};
-use std::process::ExitCode;
 use store_repair::{
     Found, MemoryStore, Reads, Repair, Stripe, StripeFiles, StripeOutcome, repair_stripe,
 };
@@ -20,19 +17,15 @@ const SURVIVORS: &[(Place, u8)] = &[
     (Place::P0, 0x04),
 ];
 
-/// Repairs the stripe, and prints what was rebuilt.
-fn main(rt: HostRuntime) -> ExitCode {
+/// Repairs the stripe, and prints what was rebuilt; `None` if there is no memory for it, or the output doesn't take it.
+pub(crate) fn show(rt: &HostRuntime) -> Option<()> {
     let mut store = MemoryStore::new(rt.alloc());
-    let Ok(outcome) = repair(rt.alloc(), &mut store) else {
-        return ExitCode::FAILURE;
-    };
+    let outcome = repair(rt.alloc(), &mut store).ok()?;
     for place in &outcome.rebuilt {
         let bytes = store.fragment("note", *place);
-        if println!(rt; "{}: {bytes:?}", place.name()).is_err() {
-            return ExitCode::FAILURE;
-        }
+        println!(rt; "{}: {bytes:?}", place.name()).ok()?;
     }
-    ExitCode::SUCCESS
+    Some(())
 }
 
 /// Puts what survives into a store, and repairs the stripe.

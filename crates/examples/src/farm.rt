@@ -1,39 +1,28 @@
 //! Answers the requests of two racks, held in memory, by two workers, and prints each answer.
-#![tactic(auto)]
-
 use farm_core::{FarmError, NoPause, Order, RackList, Racks, Settings, run};
 use lrc_code::{Fragment, Outcome, Place, Request};
 use std::alloc::{AllocError, Global};
-use std::process::ExitCode;
+use std::io::Print;
 use std::sync::Wait;
 use std::thread::Threads;
 
 /// The targets of each rack's requests.
 const TARGETS: &[&[Place]] = &[&[Place::X0, Place::Y0], &[Place::X0]];
 
-/// Prints the answers; fails if there are none.
-fn main(rt: HostRuntime) -> ExitCode {
-    match answer_all(&rt, rt.alloc()) {
-        Ok(answers) => show(&rt, answers.as_slice()),
-        Err(_) => ExitCode::FAILURE,
-    }
-}
-
-/// Prints the answers of all racks.
-fn show(rt: &HostRuntime, answers: &[Vec<Outcome>]) -> ExitCode {
-    for (rack, answers) in answers.iter().enumerate() {
+/// Prints the answers of all racks; `None` if there are none, or the output doesn't take them.
+pub(crate) fn show<R: Threads + Wait + Sync + Print>(rt: &R, alloc: Global) -> Option<()> {
+    let racks = answer_all(rt, alloc).ok()?;
+    for (rack, answers) in racks.iter().enumerate() {
         for (number, outcome) in answers.iter().enumerate() {
             let word = match outcome {
                 Outcome::Rebuilt(_) => "rebuilt",
                 Outcome::Contradiction => "contradiction",
                 Outcome::Several => "several",
             };
-            if println!(rt; "rack {rack}, request {number}: {word}").is_err() {
-                return ExitCode::FAILURE;
-            }
+            println!(rt; "rack {rack}, request {number}: {word}").ok()?;
         }
     }
-    ExitCode::SUCCESS
+    Some(())
 }
 
 /// The answers to the requests of all racks, of each rack in the order of its list.

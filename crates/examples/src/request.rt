@@ -1,10 +1,7 @@
 //! Rebuilds a lost fragment from three that survive, and prints it: a request in memory, and its answer.
-#![tactic(auto)]
-
 use lrc_code::{Fragment, Outcome, Place, Request};
 use lrc_plan::solve;
 use std::alloc::{AllocError, Global};
-use std::process::ExitCode;
 use std::str;
 
 /// The fragments of a stripe that survive, each of ten bytes. The sum of x0, x1 and x2 is px.
@@ -14,8 +11,8 @@ const SURVIVORS: &[(Place, &[u8])] = &[
     (Place::Px, b"good news."),
 ];
 
-/// Prints the answer.
-fn main(rt: HostRuntime) -> ExitCode {
+/// Prints the answer; `None` if the output doesn't take it.
+pub(crate) fn show(rt: &HostRuntime) -> Option<()> {
     let shown = match answer(rt.alloc()) {
         Ok(Outcome::Rebuilt(bytes)) => {
             println!(rt;
@@ -27,10 +24,7 @@ fn main(rt: HostRuntime) -> ExitCode {
         Ok(Outcome::Several) => println!(rt; "these fragments don't determine x0"),
         Err(AllocError) => println!(rt; "out of memory"),
     };
-    match shown {
-        Ok(()) => ExitCode::SUCCESS,
-        Err(_) => ExitCode::FAILURE,
-    }
+    shown.ok()
 }
 
 /// The answer to a request for x0. A request that is refused, as one with a name in capital letters, has none.
