@@ -13,7 +13,8 @@ ROOT = pathlib.Path(__file__).resolve().parent.parent
 SECONDS = 20
 # What fail-call.c records: three numbers, the kinds of so many calls, and a path.
 MOST_CALLS = 4_096
-RECORD = struct.Struct("=3Q" + "8s" * MOST_CALLS + "4096s")
+COUNTS, KIND, MOST_PATH = struct.Struct("=3Q"), 8, 4_096
+RECORD_SIZE = COUNTS.size + KIND * MOST_CALLS + MOST_PATH
 # Which errors calls answer that only look and read, and those that change something.
 READ_ERRORS = (errno.EIO, errno.EACCES)
 ERRORS = (errno.EIO, errno.ENOSPC, errno.EACCES, errno.EDQUOT)
@@ -61,16 +62,35 @@ class Calls:
     def run(self, words, number=0, how="", rest="", output=subprocess.PIPE):
         """Runs the program to its end, where the call of this number fails in this way."""
         with tempfile.NamedTemporaryFile(dir=self.folder) as record:
-            record.truncate(RECORD.size)
+            record.truncate(RECORD_SIZE)
             preloaded = {"LD_PRELOAD": str(self.file), "FAIL_RECORD": record.name, "FAIL_NUMBER": str(number), "FAIL_HOW": str(how),
                          "FAIL_REST": rest}
             ran = finished(words, output, preloaded)
-            counts, calls, failed, *kinds, path = RECORD.unpack(pathlib.Path(record.name).read_bytes())
+            data = record.read()
+        counts, calls, failed = COUNTS.unpack_from(data)
         hold(counts == 1, f"nothing counted the calls of {words[0]}")
-        kinds = [kind.rstrip(b"\0").decode() for kind in kinds[:calls]]
         hold(calls <= MOST_CALLS, f"{words[0]} makes {calls} calls")
-        paths = path.split(b"\0")[0].decode(errors="replace").split("\n")
+        starts = range(COUNTS.size, COUNTS.size + KIND * calls, KIND)
+        kinds = [data[at : at + KIND].rstrip(b"\0").decode() for at in starts]
+        paths = data[-MOST_PATH:].split(b"\0")[0].decode(errors="replace").split("\n")
         return dataclasses.replace(ran, kinds=kinds, failed=failed, kind=kinds[number - 1] if failed else "", paths=tuple(paths))
+
+
+def files_of(folder):
+    """The bytes of the files in a folder by their names; tens of thousands of folders are looked at, so nothing more is asked of each."""
+    found = {}
+    with os.scandir(folder) as entries:
+        for entry in entries:
+            with open(entry.path, "rb", buffering=0) as file:
+                found[entry.name] = file.read()
+    return found
+
+
+def lay(folder, files, mode=0o666):
+    """Makes files in a folder that is there."""
+    for name, data in files.items():
+        with open(os.open(f"{folder}/{name}", os.O_WRONLY | os.O_CREAT | os.O_TRUNC, mode), "wb", buffering=0) as file:
+            file.write(data)
 
 
 def finished(words, output=subprocess.PIPE, environment=None, **how):

@@ -26,7 +26,7 @@ import threading
 sys.dont_write_bytecode = True
 sys.path.append(str(pathlib.Path(__file__).resolve().parent.parent / "tools"))
 import refusals  # noqa: E402
-from faults import LATER, READ_KINDS, ROOT, Calls, Fault, all_ways, errors_of, finished, hold, only, walk  # noqa: E402
+from faults import LATER, READ_KINDS, ROOT, Calls, Fault, all_ways, errors_of, files_of, finished, hold, lay, only, walk  # noqa: E402
 from reference import CODES, product  # noqa: E402
 from store import combined, stripe  # noqa: E402
 
@@ -83,16 +83,14 @@ class Files:
     def lay(self, place):
         store = place / "store"
         store.mkdir(parents=True)
-        for name, data in self.data.items():
-            (place / name).write_bytes(data)
-        for name, data in self.before.items():
-            (store / name).write_bytes(data)
-        (store / SUMS).write_bytes(self.sums)
+        lay(place, self.data)
+        lay(store, self.before)
+        lay(store, {SUMS: self.sums})
         return store
 
     def hold_names(self, store, ran):
         """Each name has all of its bytes, a description has its fragments beside it, and the list of digests is one of the store's."""
-        there = {path.name: path.read_bytes() for path in store.iterdir() if not path.name.startswith(UNFINISHED)}
+        there = {name: data for name, data in files_of(store).items() if not name.startswith(UNFINISHED)}
         sums = there.pop(SUMS, None)
         for name, data in there.items():
             hold(data == self.after.get(name), f"a name has bytes that are no file's: {name}: {ran.text()}")
@@ -106,7 +104,7 @@ class Files:
         hold(set(self.before) - {LEFTOVER} <= set(known), f"the list of digests is not whole: {ran.text()}")
 
     def hold_whole(self, store, ran):
-        there = {path.name: path.read_bytes() for path in store.iterdir()}
+        there = files_of(store)
         sums = there.pop(SUMS, b"").decode().splitlines()
         differing = sorted(name for name in there.keys() | self.after.keys() if there.get(name) != self.after.get(name))
         hold(not differing, f"the same command again doesn't end the work: {differing}: {ran.text()}")

@@ -26,7 +26,8 @@ import threading
 sys.dont_write_bytecode = True
 sys.path.append(str(pathlib.Path(__file__).resolve().parent.parent / "tools"))
 import refusals  # noqa: E402
-from faults import LATER, READ_KINDS, ROOT, Calls, Ended, Fault, all_ways, errors_of, finished, hold, only, walk  # noqa: E402
+from faults import LATER, READ_KINDS, ROOT, Calls, Ended, Fault, all_ways  # noqa: E402
+from faults import errors_of, files_of, finished, hold, lay, only, walk  # noqa: E402
 from store import stripe  # noqa: E402
 
 PROGRAM = ROOT / "crates/rebuild_store/out/rebuild_store"
@@ -57,30 +58,29 @@ class Store:
     def lay(self, folder):
         """Makes the store's folder."""
         folder.mkdir()
-        for name, data in self.before.items():
-            (folder / name).write_bytes(data)
-            (folder / name).chmod(MODE)
+        lay(folder, self.before, MODE)
 
     def is_whole(self, folder, but=()):
-        return {path.name: path.read_bytes() for path in folder.iterdir() if path.name not in but} == self.after
+        return {name: data for name, data in files_of(folder).items() if name not in but} == self.after
 
     def unfinished(self, folder):
         """The fragments that haven't yet the bytes that they should have, each of a stripe that was not repaired."""
-        there = {path.name: path.read_bytes() for path in folder.iterdir()}
+        there = files_of(folder)
         return {name for name, data in self.after.items() if there.get(name) != data}
 
     def hold_names(self, folder, seen):
         """Each name has all of its bytes, old or new, and what was there is there."""
-        there = {path.name: path.read_bytes() for path in folder.iterdir() if not path.name.startswith(UNFINISHED)}
+        text = seen.text()
+        there = {name: data for name, data in files_of(folder).items() if not name.startswith(UNFINISHED)}
+        modes = {MODE, PRIVATE if seen.kind == "chown" else MODE}
         for name, data in there.items():
-            whole = {self.before.get(name), self.after.get(name)}
+            whole = [self.before.get(name), self.after.get(name)]
             if name.endswith(".damaged"):
-                whole.add(self.before.get(name.removesuffix(".damaged")))
-            hold(data in whole, f"a name has bytes that are no fragment's: {name}: {seen.text()}")
-            modes = {MODE, PRIVATE if seen.kind == "chown" else MODE}
-            hold((folder / name).stat().st_mode & 0o777 in modes, f"a name has another mode: {name}: {seen.text()}")
+                whole.append(self.before.get(name.removesuffix(".damaged")))
+            hold(data in whole, f"a name has bytes that are no fragment's: {name}: {text}")
+            hold(os.stat(f"{folder}/{name}").st_mode & 0o777 in modes, f"a name has another mode: {name}: {text}")
         for name in self.before:
-            hold(name in there or name.startswith(UNFINISHED), f"a name is gone: {name}: {seen.text()}")
+            hold(name in there or name.startswith(UNFINISHED), f"a name is gone: {name}: {text}")
 
 
 def store_of(code, choose, has_damage):
@@ -150,8 +150,7 @@ class Trial:
 
     def judge(self, folder, ran, how, rest):
         if not self.is_repair:
-            there = {path.name: path.read_bytes() for path in folder.iterdir()}
-            hold(there == self.store.before, f"changed the store: {ran.text()}")
+            hold(files_of(folder) == self.store.before, f"changed the store: {ran.text()}")
         if how != "meanwhile":
             self.store.hold_names(folder, ran)
         if how == "kill":
@@ -253,7 +252,7 @@ class Refused:
         self.store.hold_names(folder, seen)
         is_repair = self.words[0] == "repair"
         if not is_repair:
-            hold({path.name: path.read_bytes() for path in folder.iterdir()} == self.store.before, f"changed the store: {seen.text()}")
+            hold(files_of(folder) == self.store.before, f"changed the store: {seen.text()}")
         kind = self.kind(ran, refusal, ran.status == self.status and (not is_repair or self.store.is_whole(folder)))
         if is_repair:
             second = finished(command)

@@ -29,7 +29,7 @@ import time
 sys.dont_write_bytecode = True
 ROOT = pathlib.Path(__file__).resolve().parent.parent
 sys.path.append(str(ROOT / "tools"))
-from faults import RECORD, Calls  # noqa: E402
+from faults import RECORD_SIZE, Calls  # noqa: E402
 from store import stripe  # noqa: E402
 
 PROGRAM = ROOT / "crates/rebuild_store/out/rebuild_store"
@@ -495,7 +495,7 @@ def test_locks_of_refused_runs(place, choose):
 def waiting(calls, place, words, number):
     """A run that waits before the call of this number: gives a function that lets it go on and gives its status and what it says."""
     with tempfile.NamedTemporaryFile(dir=place) as record:
-        record.truncate(RECORD.size)
+        record.truncate(RECORD_SIZE)
         reached, until = pathlib.Path(f"{record.name}-reached"), pathlib.Path(f"{record.name}-until")
         environment = {"LD_PRELOAD": str(calls.file), "FAIL_RECORD": record.name, "FAIL_NUMBER": str(number), "FAIL_HOW": "wait",
                        "FAIL_REACHED": str(reached), "FAIL_UNTIL": str(until)}
@@ -1725,7 +1725,7 @@ def test_file_that_changes_while_it_is_read(place, choose):
 def slow_reads(place, milliseconds):
     """The variables with which each read of a run takes so much longer, as from a slow disk, so that work on small files shows lines."""
     calls, record = Calls(place), place / "record"
-    record.write_bytes(bytes(RECORD.size))
+    record.write_bytes(bytes(RECORD_SIZE))
     return {"LD_PRELOAD": str(calls.file), "FAIL_RECORD": str(record), "FAIL_NUMBER": str(milliseconds), "FAIL_HOW": "slow"}
 
 
