@@ -20,6 +20,7 @@ import tempfile
 sys.dont_write_bytecode = True
 ROOT = pathlib.Path(__file__).resolve().parent.parent
 sys.path.append(str(ROOT / "tools"))
+import faults  # noqa: E402
 from reference import CODES, product  # noqa: E402
 from store import combined, stripe  # noqa: E402
 
@@ -125,14 +126,12 @@ def cut(code, many, choose):
 def lay(folder, code, kind, many, choose):
     """Makes a store of trials, each a stripe of its own, and of a sound stripe, by which the program sees that it is of the code."""
     folder.mkdir()
-    for place, data in stripe(code, LENGTH, choose).items():
-        (folder / f"a-sound-one.{place}").write_bytes(data)
+    faults.lay(folder, {f"a-sound-one.{place}": data for place, data in stripe(code, LENGTH, choose).items()})
     trials = []
     for number, (name, there, states, lost) in enumerate(kind(code, many, choose)):
         kept = {place: data for place, data in there.items() if place not in lost}
         trials.append(Trial(code, f"{name}-without-{'-'.join(lost)}-{number}", kept, states))
-        for place, data in kept.items():
-            (folder / f"{trials[-1].name}.{place}").write_bytes(data)
+        faults.lay(folder, {f"{trials[-1].name}.{place}": data for place, data in kept.items()})
     return trials
 
 
@@ -149,22 +148,21 @@ def repair(folder, code, report, *options):
 def judge(folder, trials, rows):
     """Holds what a repair left: each fragment is as it was or one of the right ones, or a row says that it is unchecked, and it was not
     replaced if it was right."""
+    files = faults.files_of(folder)
     for trial in trials:
         for place, right in trial.right.items():
-            path = folder / f"{trial.name}.{place}"
-            now = path.read_bytes() if path.exists() else None
-            before = trial.there.get(place)
+            name = f"{trial.name}.{place}"
+            now, before = files.get(name), trial.there.get(place)
             if now == before:
                 continue
             row = rows.get((trial.name, place), {"outcome": "", "detail": ""})
             is_guess = row["outcome"] == "rebuilt" and row["detail"] == "unchecked"
-            hold(now is not None, f"{path.name} is gone")
-            hold(is_guess or now in right, f"{path.name} got bytes that aren't the stripe's, and no row says that they are unchecked")
+            hold(now is not None, f"{name} is gone")
+            hold(is_guess or now in right, f"{name} got bytes that aren't the stripe's, and no row says that they are unchecked")
             # Of a torn stripe either state may be restored.
             may_be_replaced = not is_guess and (before not in right or len(trial.states) > 1)
-            hold(before is None or may_be_replaced, f"{path.name} was replaced, though it was right or by a guess")
-            kept = path.with_name(f"{path.name}.damaged")
-            hold(before is None or kept.read_bytes() == before, f"{path.name} was replaced and isn't kept")
+            hold(before is None or may_be_replaced, f"{name} was replaced, though it was right or by a guess")
+            hold(before is None or files.get(f"{name}.damaged") == before, f"{name} was replaced and isn't kept")
 
 
 def main(program):
