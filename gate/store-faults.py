@@ -70,9 +70,12 @@ class Store:
 
     def hold_names(self, folder, seen):
         """Each name has all of its bytes, old or new, and what was there is there."""
-        text = seen.text()
-        there = {name: data for name, data in files_of(folder).items() if not name.startswith(UNFINISHED)}
-        modes = {MODE, PRIVATE if seen.kind == "chown" else MODE}
+        text, modes = seen.text(), {MODE, PRIVATE if seen.kind == "chown" else MODE}
+        files = files_of(folder)
+        there = {name: data for name, data in files.items() if not name.startswith(UNFINISHED)}
+        for name in files.keys() - there.keys() - {LEFTOVER}:
+            mode = os.stat(f"{folder}/{name}").st_mode & 0o777
+            hold(mode in {PRIVATE, *modes}, f"an unfinished file has other rights: {name}: {mode:o}: {text}")
         for name, data in there.items():
             whole = [self.before.get(name), self.after.get(name)]
             if name.endswith(".damaged"):
