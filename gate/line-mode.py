@@ -10,7 +10,6 @@ import errno
 import itertools
 import os
 import pathlib
-import re
 import struct
 import subprocess
 import sys
