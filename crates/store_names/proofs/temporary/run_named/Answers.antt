@@ -8,6 +8,7 @@ use Rattle.std.proofs.Math.Utf8.{encodes}
 use Rattle.std.proofs.lemmas.Str.{encodes-chars}
 use Rattle.std.proofs.lemmas.Iterator.{YieldsList-from_chars, YieldsList-from_take}
 use Rattle.std.proofs.lemmas.Iterator.Consumers.{YieldsList-end}
+use Rattle.std.proofs.lemmas.Result.{IfOk-from_err}
 use Rattle.store_names.specs.RunFiles.{IsRun, is_host, is_of_host, kept}
 use Rattle.store_names.proofs.Letters.{as_they_are}
 use Rattle.store_names.proofs.temporary.run_named.Goals as goal
@@ -53,3 +54,21 @@ returns-clause-taken c = λ number some. subst IsRun (sym (returns-clause-is c))
   is_process = number;
   is_host = host_is c.args.host.now c.utf8.host some;
 })
+
+pub returns-in_err-run-clause-is : goal.returns-in_err-run-clause-is
+returns-in_err-run-clause-is c = IfOk-from_err _ _ c.from_residual.ensures.0
+
+pub returns-in_err-run-clause-taken : goal.returns-in_err-run-clause-taken
+returns-in_err-run-clause-taken c = λ _ _. IfOk-from_err _ _ c.from_residual.ensures.0
+
+pub returns-in_err-push-clause-is : goal.returns-in_err-push-clause-is
+returns-in_err-push-clause-is c = IfOk-from_err _ _ c.from_residual-in_err-push.ensures.0
+
+pub returns-in_err-push-clause-taken : goal.returns-in_err-push-clause-taken
+returns-in_err-push-clause-taken c = λ _ _. IfOk-from_err _ _ c.from_residual-in_err-push.ensures.0
+
+pub returns-in_err-push-2-clause-is : goal.returns-in_err-push-2-clause-is
+returns-in_err-push-2-clause-is c = IfOk-from_err _ _ c.from_residual-in_err-push-2.ensures.0
+
+pub returns-in_err-push-2-clause-taken : goal.returns-in_err-push-2-clause-taken
+returns-in_err-push-2-clause-taken c = λ _ _. IfOk-from_err _ _ c.from_residual-in_err-push-2.ensures.0
