@@ -35,10 +35,11 @@ returns-in_err-survivors c = IfOk-from_err c.from_residual.result _ c.from_resid
 
 pub loop-word-init : goal.loop-word-init
 loop-word-init c =
+    let seen = survivors_of c.in_ok-survivors.survivors.items in
     let gives : words c.into_iter-word-iterator.result.rest.now ≡ words c.args.words.rest.now =
     ap (λ (ws : LineWords). words ws.rest.now) c.into_iter-word-iterator.ensures.into_iter_gives in
     none_yet _ c.in_ok-survivors.survivors.items c.in_ok-survivors.ensures
-    ∙ ap (λ ws. option_map (λ more. survivors_of c.in_ok-survivors.survivors.items ++ more) (every (map (survivor c.args.code) ws))) (sym gives)
+    ∙ ap (λ ws. option_map (λ more. seen ++ more) (every (map (survivor c.args.code) ws))) (sym gives)
 
 pub returns-in_err-fragment : goal.returns-in_err-fragment
 returns-in_err-fragment c = IfOk-from_err c.from_residual-in_err-fragment.result _ c.from_residual-in_err-fragment.ensures.0
@@ -46,7 +47,8 @@ returns-in_err-fragment c = IfOk-from_err c.from_residual-in_err-fragment.result
 pub returns-in_default : goal.returns-in_default
 returns-in_default c =
     let seen = survivors_of c.loop-word.survivors.items in
-    sym (c.loop-word.invariant ∙ (ap (λ ws. option_map (λ rest. seen ++ rest) (every (map (survivor c.args.code) ws))) c.in-Some.ensures.steps
+    sym (c.loop-word.invariant
+    ∙ (ap (λ ws. option_map (λ rest. seen ++ rest) (every (map (survivor c.args.code) ws))) c.in-Some.ensures.steps
     ∙ every_stops (survivor c.args.code) c.in-Some.word.now (words c.next.new.self.rest.now) seen
     (sym c.in_ok-fragment.ensures ∙ ap (option_map survivor_of) c.in_default.is)))
 

@@ -29,7 +29,8 @@ few input left r within (replies, whole, held, room) =
 
 -- a line of spaces alone gets none
 none_more : (input left rest line : List ℕ) (r : Replies)
-    → lines left ≡ line ∷ lines rest → length rest < length left → list_all is_space line ≡ true → Progress input left r → Progress input rest r
+    → lines left ≡ line ∷ lines rest → length rest < length left → list_all is_space line ≡ true
+    → Progress input left r → Progress input rest r
 none_more input left rest line r is shorter blank (replies, whole, held, room) = (
   replies,
   λ more answer. whole more (rw (is, blank) answer),
