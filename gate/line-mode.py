@@ -21,7 +21,7 @@ sys.dont_write_bytecode = True
 import refusals  # noqa: E402
 
 ROOT = pathlib.Path(__file__).resolve().parent.parent
-TESTS = ROOT / "crates/farm_lists_tests/out/farm_lists_tests"
+TESTS = ROOT / "crates/farm_lists_tests/out/farm_lists_tests_tests"
 SECONDS = 60
 
 # What a test ends its output with.
