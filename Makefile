@@ -166,7 +166,8 @@ try-ceph-releases: store
 
 # What the gate runs after the proofs, over the programs and tests that they leave in each crate's out/. No two of these share a file
 # that one of them writes, so several run at once.
-AFTER := $(addprefix gate/,refusals.py no-compile.py reference-lines.sh line-mode.py arguments.py lists.py ends.sh examples.py manual.sh \
+AFTER := $(addprefix gate/,refusals.py no-compile.py reference-lines.sh line-mode.py arguments.py lists.py farm-folders.py \
+  farm-calls.py farm-batches.py farm-shelves.py ends.sh examples.py manual.sh \
   completions.sh install.sh version.sh numbers.py tables.py growth.py memory.py companion.py repair-store.py encode-store.py \
   store-options.py store-disks.py store-strangers.py store-sharing.py store-watching.py store-files.py store-life.py store-damage.py \
   store-faults.py file-faults.py packages.sh) tools/try.sh tools/demo.sh ceph/test.sh

@@ -10,7 +10,6 @@ import errno
 import itertools
 import os
 import pathlib
-import struct
 import subprocess
 import sys
 import tempfile
@@ -18,6 +17,7 @@ from concurrent.futures import ThreadPoolExecutor
 
 # No compiled copy of the modules is left beside them.
 sys.dont_write_bytecode = True
+import devices  # noqa: E402
 import refusals  # noqa: E402
 
 ROOT = pathlib.Path(__file__).resolve().parent.parent
@@ -246,22 +246,12 @@ def run(way, given, environment=None):
     return ran.stdout, ran.stderr, ran.returncode
 
 
-class Device:
-    """slow-device.c, built into a folder."""
-
-    def __init__(self, folder):
-        self.folder, self.file = folder, folder / "slow-device.so"
-        refusals.build(self.file, "slow-device.c", "-shared", "-fPIC")
+class Device(devices.Device):
+    """slow-device.c, by which line mode is run."""
 
     def run(self, way, given, most="", error=0, **failing):
-        """Runs line mode by a device that moves so many bytes at a call, and of which the read or the write of a number fails with an
-        error. Gives how it ended, and the numbers of reads, writes and flushed bytes."""
-        with tempfile.NamedTemporaryFile(dir=self.folder) as counts:
-            counts.truncate(24)
-            environment = {"LD_PRELOAD": str(self.file), "DEVICE_COUNTS": counts.name, "DEVICE_MOST": str(most), "DEVICE_ERROR": str(error)}
-            environment |= {f"DEVICE_{kind.upper()}": str(number) for kind, number in failing.items()}
-            ended = run(way, given, environment)
-            return ended, *struct.unpack("=3Q", pathlib.Path(counts.name).read_bytes())
+        """How line mode ends on an input, and the numbers of reads, writes and flushed bytes."""
+        return self.counted(lambda environment: run(way, given, environment), most, error, **failing)
 
 
 def test_lines(found, pool):

@@ -38,10 +38,6 @@ TESTS = [
     ("farm_core_tests", "two_workers_answer_six_feeds", 9),
     ("farm_core_tests", "collector_takes_its_room", 0),
     ("farm_lists_tests", "three_threads_make_the_known_digest", 2),
-    ("farm_files_tests", "nothing_written_before_all_texts_are_made", 3),
-    ("farm_files_tests", "nothing_written_with_two_workers", 4),
-    ("farm_files_tests", "racks_are_answered_a_request_at_a_time", 3),
-    ("farm_files_tests", "a_failed_write_without_memory_changes_nothing", 0),
     ("store_repair_tests", "each_name_is_as_it_was_or_rebuilt", 0),
 ]
 
@@ -81,13 +77,14 @@ COUNTED_FOLDERS = [
     ("two batches", ["x1", "x2", "px"], DIGESTED, 2, 2),
 ]
 
-# A folder whose survivors are read in two batches, the second beside the answering of the first: as many requests of the (12,2,2) code
-# for the longest fragments, each with all other places as survivors. 16 of them fit into a batch. The survivors of these are absent, and
-# of the last two they are there, of zeros. With four workers a batch starts as many threads for its farm as FARM_THREADS: a collector's,
-# the workers' and a feeder's.
+# A folder whose survivors are read in three batches, each beside the answering of the one before. The first rack has as many requests of
+# the (12,2,2) code for the longest fragments, each with all other places as survivors, a close and a request after it, and a feed without
+# requests. 16 of these requests fit into a batch. The survivors of these are absent, and of the last two they are there, of zeros. Two
+# racks of a small request are the last batch. With four workers that starts as many threads for its farm as FARM_THREADS: a collector's,
+# the workers' and two feeders'.
 BATCHED = 18
 THERE = range(16, BATCHED)
-FARM_THREADS = 6
+FARM_THREADS = 7
 LONGEST = 65_536
 SURVIVORS = "x1 x2 x3 x4 x5 y0 y1 y2 y3 y4 y5 px py p0 p1"
 
@@ -150,8 +147,9 @@ class Library:
         self.file = folder / "refuse.so"
         build(self.file, "refuse.c", "-shared", "-fPIC")
 
-    def run(self, words, given=b"", refusal=Refusal(), large=0):
-        """Runs a program to its end under a refusal, and counts its allocations of so many bytes or more."""
+    def run(self, words, given=b"", refusal=Refusal(), large=0, late=0):
+        """Runs a program to its end under a refusal, and counts its allocations of so many bytes or more. The thread of a number may begin
+        late."""
         with tempfile.NamedTemporaryFile(dir=self.folder) as counts:
             counts.truncate(56)
             environment = {
@@ -161,6 +159,7 @@ class Library:
                 "REFUSE_THREAD": str(refusal.thread),
                 "REFUSE_REST": str(int(refusal.rest)),
                 "REFUSE_LARGE": str(large),
+                "REFUSE_LATE": str(late),
             }
             ran = finished(words, given, environment)
             numbers = struct.unpack("=7Q", pathlib.Path(counts.name).read_bytes())
@@ -270,10 +269,9 @@ def served_files():
 
 
 def batched_folder(folder):
-    """Makes the folder of two batches, and gives it with what serving it may write."""
+    """Makes the folder of three batches, and gives it with what serving it may write."""
     folder.mkdir()
     zeros = bytes(LONGEST)
-    digest = hashlib.sha256(zeros).hexdigest()
     listed, rows = ["order,stripe,target,length,survivors,code"], []
     for number in range(BATCHED):
         is_there = number in THERE
@@ -281,14 +279,27 @@ def batched_folder(folder):
             for place in SURVIVORS.split():
                 (folder / f"s{number}.{place}").write_bytes(zeros)
         listed.append(f"rebuild,s{number},x0,{LONGEST},{SURVIVORS},12-2-2")
-        row = {"number": number, "stripe": f"s{number}", "target": "x0", "length": str(LONGEST)}
-        if is_there:
-            row |= {"outcome": "rebuilt", "digest": digest, "unread": ""}
-        else:
-            row |= {"outcome": "several", "digest": "", "unread": SURVIVORS}
+        row = {"number": number, "feed": "0"} | report_row(f"s{number}", zeros if is_there else None, LONGEST, SURVIVORS)
         rows.append(row | {"code": "12-2-2"})
+    listed += ["close,,,,,", listed[1]]
     (folder / "rack0.csv").write_text("".join(line + "\n" for line in listed))
-    return folder, [rack_files(0, list(rows[0]), rows)], b"served 1 racks, %d answers\n" % BATCHED
+    (folder / "rack0.feed1.csv").write_text(listed[0] + "\n")
+    files = rack_files(0, list(rows[0]), rows)
+    for rack in (1, 2):
+        (folder / f"rack{rack}.csv").write_text("order,stripe,target,length,survivors\nrebuild,small,x0,1,x1 x2 px\n")
+        row = {"number": 0} | report_row("small", b"\0", 1, "")
+        files += rack_files(rack, list(row), [row])
+    for place in ("x1", "x2", "px"):
+        (folder / f"small.{place}").write_bytes(b"\0")
+    return folder, [files], b"served 3 racks, %d answers\n" % (BATCHED + 2)
+
+
+def report_row(stripe, fragment, length, survivors):
+    """A report's fields on a request for x0 whose fragment is rebuilt, or of which all survivors are left out."""
+    row = {"stripe": stripe, "target": "x0", "length": str(length)}
+    if fragment is None:
+        return row | {"outcome": "several", "digest": "", "unread": survivors}
+    return row | {"outcome": "rebuilt", "digest": hashlib.sha256(fragment).hexdigest(), "unread": ""}
 
 
 class Farm:
@@ -453,12 +464,18 @@ def text_walks(library):
         yield Walk("long-lines", "thread", rest, long, set(), {"answered"})
 
 
+def paths_of(farm):
+    """How often memory is refused between two writes: once for the path of each file but the first, and not for any file's bytes, since
+    all of these are made before the first write."""
+    return {"E16 between two writes": len(farm.served[0]) - 1}
+
+
 def farm_walks(library):
     """Served folders."""
     for workers, queue in [(1, 1), (2, 1), (4, 16)]:
         farm = Farm(library, workers, queue)
         name = f"farm-{workers}-{queue}"
-        yield Walk(name, "allocation", False, farm, {"E16", "E17", "E16 between two writes"})
+        yield Walk(name, "allocation", False, farm, {"E16", "E17", "E16 between two writes"}, exact=paths_of(farm))
         yield Walk(name, "allocation", True, farm, {"E16", "silent", "silent between two writes"})
     for workers, queue in [(1, 1), (4, 16), (16, 1)]:
         for rest in [False, True]:
@@ -466,7 +483,7 @@ def farm_walks(library):
     # Reading ahead does without what it is refused, and a batch whose farm is refused something beside it is answered once more, alone: so
     # one refused thread is told only of the last batch, beside which nothing is read.
     batched = Farm(library, 4, 16, *batched_folder(library.folder / "batched"))
-    yield Walk("farm-batches", "allocation", False, batched, {"answered", "E16", "E16 between two writes"})
+    yield Walk("farm-batches", "allocation", False, batched, {"answered", "E16", "E16 between two writes"}, exact=paths_of(batched))
     yield Walk("farm-batches", "allocation", True, batched, {"E16"})
     yield Walk("farm-batches", "thread", False, batched, {"answered"}, {"answered", "E17"}, exact={"E17": FARM_THREADS})
     yield Walk("farm-batches", "thread", True, batched, {"E17"})

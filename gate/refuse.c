@@ -1,9 +1,10 @@
 /* Preloaded into a program, this refuses one of its allocations or one of its threads, and counts them.
  *
  * REFUSE_ALLOCATION=N refuses the Nth allocation and REFUSE_THREAD=N the Nth thread, from 1; REFUSE_REST=1 refuses all
- * that follow it too. Counting begins with `main`, so the system's own start-up is let be. The file REFUSE_COUNTS gets
- * seven numbers of 64 bits: for allocations, then for threads, those asked for, those refused, and 1 where `main` was
- * reached; then the allocations of REFUSE_LARGE bytes or more. It is mapped, so it is right however the program ends. */
+ * that follow it too. REFUSE_LATE=N lets the Nth thread begin only after a tenth of a second. Counting begins with
+ * `main`, so the system's own start-up is let be. The file REFUSE_COUNTS gets seven numbers of 64 bits: for allocations,
+ * then for threads, those asked for, those refused, and 1 where `main` was reached; then the allocations of REFUSE_LARGE
+ * bytes or more. It is mapped, so it is right however the program ends. */
 #define _GNU_SOURCE
 #include <dlfcn.h>
 #include <errno.h>
@@ -98,12 +99,32 @@ int posix_memalign(void **to, size_t alignment, size_t size)
 
 typedef int create(pthread_t *, const pthread_attr_t *, void *(*)(void *), void *);
 
+/* The thread that begins late, 0 for none, and what it does then. */
+static uint64_t late;
+static struct {
+    void *(*body)(void *);
+    void *with;
+} begun_late;
+
+static void *begin_late(void *none)
+{
+    (void)none;
+    usleep(100000);
+    return begun_late.body(begun_late.with);
+}
+
 int pthread_create(pthread_t *thread, const pthread_attr_t *attributes, void *(*body)(void *), void *with)
 {
     static create *system_create;
     if (system_create == NULL)
         system_create = (create *)dlsym(RTLD_NEXT, "pthread_create");
-    return is_refused(THREAD) ? EAGAIN : system_create(thread, attributes, body, with);
+    if (is_refused(THREAD))
+        return EAGAIN;
+    if (late == 0 || atomic_load(&counts->kinds[THREAD].asked) != late)
+        return system_create(thread, attributes, body, with);
+    begun_late.body = body;
+    begun_late.with = with;
+    return system_create(thread, attributes, begin_late, NULL);
 }
 
 static int (*program_main)(int, char **, char **);
@@ -143,6 +164,7 @@ __attribute__((constructor)) static void prepare(void)
     first[ALLOCATION] = number_of("REFUSE_ALLOCATION");
     first[THREAD] = number_of("REFUSE_THREAD");
     refuses_rest = number_of("REFUSE_REST") != 0;
+    late = number_of("REFUSE_LATE");
     if (number_of("REFUSE_LARGE") != 0)
         large = number_of("REFUSE_LARGE");
 }

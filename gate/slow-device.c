@@ -1,10 +1,11 @@
 /* Preloaded into a program, this has its standard input give few bytes at a read, its standard output take few at a write, and a read or a
  * write of them fail, and counts both.
  *
- * DEVICE_MOST=N has a call move N bytes at most. DEVICE_READ=N has the read of this number, from 0, answer the error DEVICE_ERROR, and
- * DEVICE_WRITE=N the write; `all` has each do so. From the first write of standard error on, in which a program says how it ended, writes
- * are made as they are, and not counted. The file DEVICE_COUNTS gets three numbers of 64 bits: how many reads and writes there were, and
- * how many bytes were written before the last write of no bytes. It is mapped, so it is right however the program ends. */
+ * DEVICE_FILE=N has the file of this number in place of standard input. DEVICE_MOST=N has a call move N bytes at most. DEVICE_READ=N has
+ * the read of this number, from 0, answer the error DEVICE_ERROR, and DEVICE_WRITE=N the write; `all` has each do so. From the first write
+ * of standard error on, in which a program says how it ended, writes are made as they are, and not counted. The file DEVICE_COUNTS gets
+ * three numbers of 64 bits: how many reads and writes there were, and how many bytes were written before the last write of no bytes. It is
+ * mapped, so it is right however the program ends. */
 #define _GNU_SOURCE
 #include <dlfcn.h>
 #include <errno.h>
@@ -34,12 +35,12 @@ static struct rule reading, writing;
 static uint64_t written;
 static int has_said;
 static size_t most;
-static int error_number;
+static int error_number, input;
 static reader *system_read;
 static writer *system_write;
 
-/* What was read ahead of standard input, so that a byte takes no call of the system. */
-static unsigned char ahead[65536];
+/* What was read ahead of the input, so that a byte takes no call of the system. */
+static unsigned char ahead[1 << 21];
 static size_t first, end;
 
 static int fails(const struct rule *rule, uint64_t *calls)
@@ -58,7 +59,7 @@ static size_t least(size_t one, size_t other)
 
 ssize_t read(int file, void *bytes, size_t size)
 {
-    if (file != STDIN_FILENO)
+    if (file != input)
         return system_read(file, bytes, size);
     if (fails(&reading, &counts->reads))
         return -1;
@@ -114,6 +115,7 @@ __attribute__((constructor)) static void prepare(void)
     writing = rule_of(text_of("DEVICE_WRITE"));
     most = *text_of("DEVICE_MOST") == 0 ? SIZE_MAX : strtoull(text_of("DEVICE_MOST"), NULL, 10);
     error_number = atoi(text_of("DEVICE_ERROR"));
+    input = atoi(text_of("DEVICE_FILE"));
     system_read = (reader *)dlsym(RTLD_NEXT, "read");
     system_write = (writer *)dlsym(RTLD_NEXT, "write");
 }

@@ -16,7 +16,7 @@ from edits import edited  # noqa: E402
 ROOT = pathlib.Path(__file__).resolve().parent.parent
 
 # The crates in which the tests of a crate's calls are, if not in the crate itself; those of lrc_c are in C, and those of line_mode,
-# command_line and most of farm_lists are scripts over what is built.
+# command_line, farm_shelves, farm_files, and most of farm_lists and farm_reading, are scripts over what is built.
 TESTS = {
     "lrc_field": ["lrc_tests"],
     "lrc_code": ["lrc_tests"],
@@ -27,11 +27,11 @@ TESTS = {
     "farm_threads": ["farm_core_tests"],
     "farm_core": ["farm_core_tests"],
     "sha256_lanes": ["farm_lists_tests"],
-    "farm_lists": ["farm_lists_tests", "farm_files_tests"],
-    "farm_reports": ["farm_lists_tests", "farm_files_tests"],
-    "farm_shelves": ["farm_files_tests"],
-    "farm_reading": ["farm_lists_tests", "farm_files_tests"],
-    "farm_files": ["farm_files_tests"],
+    "farm_lists": ["farm_lists_tests"],
+    "farm_reports": ["farm_lists_tests"],
+    "farm_shelves": [],
+    "farm_reading": ["farm_lists_tests"],
+    "farm_files": [],
     "store_repair": ["store_repair_tests"],
     "stores": ["store_repair_tests"],
     "line_mode": [],

@@ -1,7 +1,7 @@
 //! Tests of the public calls of `sha256_lanes`, `farm_lists` and `farm_reports`, and of how `farm_reading` reports faults, with the bytes
-//! and digests of the formats, and the list and the reports that they share with the tests of `farm_files`; and those that show scripts of
-//! gate/ what line mode and `farm_lists` do. They are in a crate of their own, so that a check of those crates proves each once and not a
-//! second time with its tests, and without the farm, so that they don't wait for its proof.
+//! and digests of the formats; and those that show scripts of gate/ what line mode and `farm_lists` do. They are in a crate of their own,
+//! so that a check of those crates proves each once and not a second time with its tests, and without the farm, so that they don't wait
+//! for its proof.
 #![tactic(auto)]
 
 #[cfg(test)]
@@ -20,4 +20,5 @@ mod lines;
 mod lists;
 #[cfg(test)]
 mod reports;
-pub mod samples;
+#[cfg(test)]
+mod samples;
