@@ -23,3 +23,4 @@ pub mod FileLemmas
 pub mod GivenLemmas
 pub mod ReadingLemmas
 pub mod EncodingLemmas
+pub mod SameLemmas

@@ -5,6 +5,7 @@ use Rattle.std.specs.List.{list_any}
 use Rattle.hex.specs.Hex.{encode_lower}
 use Rattle.store_records.specs.SumLines.{escaped, is_escaped}
 use Rattle.store_records.proofs.sums.append_line.Goals.{then-has_escaped+in_ok-push, else-has_escaped}
+use Rattle.std.proofs.lemmas.Result.{IfOk-from_err}
 use Rattle.store_records.proofs.sums.append_line.Goals as goal
 
 regroup : (old first digits spaces name end : List ℕ) → ((((old ++ first) ++ digits) ++ spaces) ++ name) ++ end
@@ -37,3 +38,21 @@ returns c =
     = c.loop-byte.invariant ∙ ap (λ t. c.extend_from_slice-2.new.self.items ++ escaped t) whole ∙ ap (λ t. t ++ escaped name) before in
     c.in_ok-push-2.ensures.items ∙ ap (λ t. t ++ codes "\n") named
     ∙ regroup c.args.text.now.items first digest (codes "  ") (escaped name) (codes "\n")
+
+pub returns-in_err-push : goal.returns-in_err-push
+returns-in_err-push c = IfOk-from_err _ _ c.from_residual.ensures.0
+
+pub returns-in_err-digits_of : goal.returns-in_err-digits_of
+returns-in_err-digits_of c = IfOk-from_err _ _ c.from_residual-in_err-digits_of.ensures.0
+
+pub returns-in_err-extend_from_slice : goal.returns-in_err-extend_from_slice
+returns-in_err-extend_from_slice c = IfOk-from_err _ _ c.from_residual-in_err-extend_from_slice.ensures.0
+
+pub returns-in_err-extend_from_slice-2 : goal.returns-in_err-extend_from_slice-2
+returns-in_err-extend_from_slice-2 c = IfOk-from_err _ _ c.from_residual-in_err-extend_from_slice-2.ensures.0
+
+pub returns-in_err-append_escaped : goal.returns-in_err-append_escaped
+returns-in_err-append_escaped c = IfOk-from_err _ _ c.from_residual-in_err-append_escaped.ensures.0
+
+pub returns-in_err-push-2 : goal.returns-in_err-push-2
+returns-in_err-push-2 c = IfOk-from_err _ _ c.from_residual-in_err-push-2.ensures.0

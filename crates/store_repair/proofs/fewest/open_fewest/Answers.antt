@@ -2,6 +2,7 @@ use Rattle.std.proofs.Common.{subst, sym}
 use Rattle.lrc_code.specs.Sets.{is_in}
 use Rattle.store_repair.specs.Opened.{AreFound, AreOpened}
 use Rattle.store_repair.proofs.AccountedLemmas.{found_among}
+use Rattle.std.proofs.lemmas.Result.{IfOk-from_err}
 use Rattle.store_repair.proofs.fewest.open_fewest.Goals as goal
 use Rattle.store_repair.proofs.fewest.open_fewest.Goals.{then-few+in_ok-opened, else-few+in_ok-opened-2}
 
@@ -23,3 +24,33 @@ returns-clause-found g c =
       | then-few+in_ok-opened w ↦ subst (λ o. are (is_in o.set)) (sym w.opened-is) w.in_ok-opened.ensures.found
       | else-few+in_ok-opened-2 w ↦ subst (λ o. are (is_in o.set)) (sym w.opened-is) w.in_ok-opened-2.ensures.found
     ])
+
+pub returns-in_err-listed-clause-sixteen : goal.returns-in_err-listed-clause-sixteen
+returns-in_err-listed-clause-sixteen g c = IfOk-from_err _ _ c.from_residual.ensures.0
+
+pub returns-in_err-listed-clause-length : goal.returns-in_err-listed-clause-length
+returns-in_err-listed-clause-length g c = IfOk-from_err _ _ c.from_residual.ensures.0
+
+pub returns-in_err-listed-clause-opened : goal.returns-in_err-listed-clause-opened
+returns-in_err-listed-clause-opened g c = IfOk-from_err _ _ c.from_residual.ensures.0
+
+pub returns-in_err-listed-clause-found : goal.returns-in_err-listed-clause-found
+returns-in_err-listed-clause-found g c = IfOk-from_err _ _ c.from_residual.ensures.0
+
+pub returns-in_err-listed-clause-listed : goal.returns-in_err-listed-clause-listed
+returns-in_err-listed-clause-listed g c = IfOk-from_err _ _ c.from_residual.ensures.0
+
+pub returns-in_err-few-clause-sixteen : goal.returns-in_err-few-clause-sixteen
+returns-in_err-few-clause-sixteen g c = IfOk-from_err _ _ c.from_residual-in_err-few.ensures.0
+
+pub returns-in_err-few-clause-length : goal.returns-in_err-few-clause-length
+returns-in_err-few-clause-length g c = IfOk-from_err _ _ c.from_residual-in_err-few.ensures.0
+
+pub returns-in_err-few-clause-opened : goal.returns-in_err-few-clause-opened
+returns-in_err-few-clause-opened g c = IfOk-from_err _ _ c.from_residual-in_err-few.ensures.0
+
+pub returns-in_err-few-clause-found : goal.returns-in_err-few-clause-found
+returns-in_err-few-clause-found g c = IfOk-from_err _ _ c.from_residual-in_err-few.ensures.0
+
+pub returns-in_err-few-clause-listed : goal.returns-in_err-few-clause-listed
+returns-in_err-few-clause-listed g c = IfOk-from_err _ _ c.from_residual-in_err-few.ensures.0

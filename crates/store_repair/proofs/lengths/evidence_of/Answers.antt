@@ -4,6 +4,7 @@ use Rattle.store_repair.specs.Mended.{IsConsistency}
 use Rattle.stores.specs.Shown.{AreShown}
 use Rattle.store_repair.proofs.LengthLemmas.{confirmed}
 use Rattle.store_repair.proofs.ScrubLemmas.{of_one_stripe}
+use Rattle.std.proofs.lemmas.Result.{IfOk-from_err}
 use Rattle.store_repair.proofs.lengths.evidence_of.Goals as goal
 
 pub returns-in-Ok-true-clause-checks : goal.returns-in-Ok-true-clause-checks
@@ -19,3 +20,15 @@ returns-in-Ok-true-clause-checks g c = λ _.
     (of_one_stripe shown code stripe len opened.set opened.fragments.items sixteen files c.in_ok-opened.ensures.opened
     (λ xs are whole. subst (IsConsistency code (is_in opened.set) xs len) c.in-Ok-true.field-0-test
     (c.in-Ok-true.ensures xs (subst (λ fs. AreShown shown fs xs) (sym c.as_slice.ensures.value) are) whole)))
+
+pub returns-in_err-opened-clause-checks : goal.returns-in_err-opened-clause-checks
+returns-in_err-opened-clause-checks g c = IfOk-from_err _ _ c.from_residual.ensures.0
+
+pub returns-in_err-opened-clause-digest : goal.returns-in_err-opened-clause-digest
+returns-in_err-opened-clause-digest g c = IfOk-from_err _ _ c.from_residual.ensures.0
+
+pub returns-in_err-has_digest-clause-checks : goal.returns-in_err-has_digest-clause-checks
+returns-in_err-has_digest-clause-checks g c = IfOk-from_err _ _ c.from_residual-in_err-has_digest.ensures.0
+
+pub returns-in_err-has_digest-clause-digest : goal.returns-in_err-has_digest-clause-digest
+returns-in_err-has_digest-clause-digest g c = IfOk-from_err _ _ c.from_residual-in_err-has_digest.ensures.0

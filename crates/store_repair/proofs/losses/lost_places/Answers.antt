@@ -2,6 +2,7 @@ use Rattle.std.proofs.Common.{◌∙◌, ◌+◌, ap, sym, subst, List}
 use Rattle.lrc_code.specs.declared.places.Place.{Place}
 use Rattle.lrc_code.specs.Sets.{is_in}
 use Rattle.store_repair.proofs.LostLemmas.{AreSorted, sorted_determined, sorted_other, sorted_several}
+use Rattle.std.proofs.lemmas.Result.{IfOk-from_err}
 use Rattle.store_repair.proofs.losses.lost_places.Goals as goal
 use Rattle.store_repair.proofs.losses.lost_places.Goals.{then-is_lost+then-is_given+in_ok-push, then-is_lost+else-is_given+in_ok-push-2}
 use Rattle.store_repair.proofs.losses.lost_places.Goals.{else-is_lost}
@@ -38,3 +39,63 @@ loop-index-preserved c =
           subst (λ a. After a c.if-is_lost.several.items) (sym first) (subst (After _) (sym second)
           (sorted_other code survives among n ds vs p here so (c.is_lost.ensures.other w.if-is_lost.false))))
     ]
+
+pub returns-in_err-push-clause-determined : goal.returns-in_err-push-clause-determined
+returns-in_err-push-clause-determined c = IfOk-from_err _ _ c.from_residual.ensures.0
+
+pub returns-in_err-push-clause-apart : goal.returns-in_err-push-clause-apart
+returns-in_err-push-clause-apart c = IfOk-from_err _ _ c.from_residual.ensures.0
+
+pub returns-in_err-push-clause-used : goal.returns-in_err-push-clause-used
+returns-in_err-push-clause-used c = IfOk-from_err _ _ c.from_residual.ensures.0
+
+pub returns-in_err-push-clause-several : goal.returns-in_err-push-clause-several
+returns-in_err-push-clause-several c = IfOk-from_err _ _ c.from_residual.ensures.0
+
+pub returns-in_err-push-clause-given : goal.returns-in_err-push-clause-given
+returns-in_err-push-clause-given c = IfOk-from_err _ _ c.from_residual.ensures.0
+
+pub returns-in_err-push-clause-differ : goal.returns-in_err-push-clause-differ
+returns-in_err-push-clause-differ c = IfOk-from_err _ _ c.from_residual.ensures.0
+
+pub returns-in_err-push-clause-all : goal.returns-in_err-push-clause-all
+returns-in_err-push-clause-all c = IfOk-from_err _ _ c.from_residual.ensures.0
+
+pub returns-in_err-push-2-clause-determined : goal.returns-in_err-push-2-clause-determined
+returns-in_err-push-2-clause-determined c = IfOk-from_err _ _ c.from_residual-in_err-push-2.ensures.0
+
+pub returns-in_err-push-2-clause-apart : goal.returns-in_err-push-2-clause-apart
+returns-in_err-push-2-clause-apart c = IfOk-from_err _ _ c.from_residual-in_err-push-2.ensures.0
+
+pub returns-in_err-push-2-clause-used : goal.returns-in_err-push-2-clause-used
+returns-in_err-push-2-clause-used c = IfOk-from_err _ _ c.from_residual-in_err-push-2.ensures.0
+
+pub returns-in_err-push-2-clause-several : goal.returns-in_err-push-2-clause-several
+returns-in_err-push-2-clause-several c = IfOk-from_err _ _ c.from_residual-in_err-push-2.ensures.0
+
+pub returns-in_err-push-2-clause-given : goal.returns-in_err-push-2-clause-given
+returns-in_err-push-2-clause-given c = IfOk-from_err _ _ c.from_residual-in_err-push-2.ensures.0
+
+pub returns-in_err-push-2-clause-differ : goal.returns-in_err-push-2-clause-differ
+returns-in_err-push-2-clause-differ c = IfOk-from_err _ _ c.from_residual-in_err-push-2.ensures.0
+
+pub returns-in_err-push-2-clause-all : goal.returns-in_err-push-2-clause-all
+returns-in_err-push-2-clause-all c = IfOk-from_err _ _ c.from_residual-in_err-push-2.ensures.0
+
+pub returns-clause-determined : goal.returns-clause-determined
+returns-clause-determined c = c.loop-index.invariant.determined
+
+pub returns-clause-apart : goal.returns-clause-apart
+returns-clause-apart c = c.loop-index.invariant.apart
+
+pub returns-clause-used : goal.returns-clause-used
+returns-clause-used c = c.loop-index.invariant.used
+
+pub returns-clause-several : goal.returns-clause-several
+returns-clause-several c = c.loop-index.invariant.several
+
+pub returns-clause-given : goal.returns-clause-given
+returns-clause-given c = c.loop-index.invariant.given
+
+pub returns-clause-differ : goal.returns-clause-differ
+returns-clause-differ c = c.loop-index.invariant.differ

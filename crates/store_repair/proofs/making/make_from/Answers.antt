@@ -8,7 +8,7 @@ use Rattle.lrc_code.specs.Sets.{is_in}
 use Rattle.store_repair.specs.Mended.{AreLost, IsMendedStripe}
 use Rattle.stores.specs.Shown.{AreShown}
 use Rattle.store_repair.proofs.RepairLemmas.{are_made}
-use Rattle.std.proofs.lemmas.Result.{IfOk-weaker}
+use Rattle.std.proofs.lemmas.Result.{IfOk-from_err, IfOk-weaker}
 use Rattle.store_repair.proofs.MadeLemmas.{none_made, not_made}
 use Rattle.store_repair.proofs.making.make_from.Goals as goal
 
@@ -82,3 +82,103 @@ returns-in_ok-discard_all-in-Err-clause-all g c = λ _.
 pub returns-in_ok-discard_all-in-Err-clause-said : goal.returns-in_ok-discard_all-in-Err-clause-said
 returns-in_ok-discard_all-in-Err-clause-said g c =
     IfOk-weaker c.after_fault.result _ _ (not_made _) c.after_fault.ensures.said
+
+pub returns-in_err-lost-clause-made : goal.returns-in_err-lost-clause-made
+returns-in_err-lost-clause-made g c = IfOk-from_err _ _ c.from_residual.ensures.0
+
+pub returns-in_err-lost-clause-checked : goal.returns-in_err-lost-clause-checked
+returns-in_err-lost-clause-checked g c = IfOk-from_err _ _ c.from_residual.ensures.0
+
+pub returns-in_err-lost-clause-all : goal.returns-in_err-lost-clause-all
+returns-in_err-lost-clause-all g c = λ _. IfOk-from_err _ _ c.from_residual.ensures.0
+
+pub returns-in_err-lost-clause-said : goal.returns-in_err-lost-clause-said
+returns-in_err-lost-clause-said g c = IfOk-from_err _ _ c.from_residual.ensures.0
+
+pub returns-in_err-files-clause-made : goal.returns-in_err-files-clause-made
+returns-in_err-files-clause-made g c = IfOk-from_err _ _ c.from_residual-in_err-files.ensures.0
+
+pub returns-in_err-files-clause-checked : goal.returns-in_err-files-clause-checked
+returns-in_err-files-clause-checked g c = IfOk-from_err _ _ c.from_residual-in_err-files.ensures.0
+
+pub returns-in_err-files-clause-all : goal.returns-in_err-files-clause-all
+returns-in_err-files-clause-all g c = λ _. IfOk-from_err _ _ c.from_residual-in_err-files.ensures.0
+
+pub returns-in_err-files-clause-said : goal.returns-in_err-files-clause-said
+returns-in_err-files-clause-said g c = IfOk-from_err _ _ c.from_residual-in_err-files.ensures.0
+
+pub returns-in_err-note_all-in-Ok-true-clause-made : goal.returns-in_err-note_all-in-Ok-true-clause-made
+returns-in_err-note_all-in-Ok-true-clause-made g c = IfOk-from_err _ _ c.from_residual-in_err-note_all-in-Ok-true.ensures.0
+
+pub returns-in_err-note_all-in-Ok-true-clause-checked : goal.returns-in_err-note_all-in-Ok-true-clause-checked
+returns-in_err-note_all-in-Ok-true-clause-checked g c = IfOk-from_err _ _ c.from_residual-in_err-note_all-in-Ok-true.ensures.0
+
+pub returns-in_err-note_all-in-Ok-true-clause-all : goal.returns-in_err-note_all-in-Ok-true-clause-all
+returns-in_err-note_all-in-Ok-true-clause-all g c = λ _. IfOk-from_err _ _ c.from_residual-in_err-note_all-in-Ok-true.ensures.0
+
+pub returns-in_err-note_all-in-Ok-true-clause-said : goal.returns-in_err-note_all-in-Ok-true-clause-said
+returns-in_err-note_all-in-Ok-true-clause-said g c = IfOk-from_err _ _ c.from_residual-in_err-note_all-in-Ok-true.ensures.0
+
+pub returns-in_err-discard_all-in-Ok-false-clause-made : goal.returns-in_err-discard_all-in-Ok-false-clause-made
+returns-in_err-discard_all-in-Ok-false-clause-made g c = IfOk-from_err _ _ c.from_residual-in_err-discard_all-in-Ok-false.ensures.0
+
+pub returns-in_err-discard_all-in-Ok-false-clause-checked : goal.returns-in_err-discard_all-in-Ok-false-clause-checked
+returns-in_err-discard_all-in-Ok-false-clause-checked g c = IfOk-from_err _ _ c.from_residual-in_err-discard_all-in-Ok-false.ensures.0
+
+pub returns-in_err-discard_all-in-Ok-false-clause-all : goal.returns-in_err-discard_all-in-Ok-false-clause-all
+returns-in_err-discard_all-in-Ok-false-clause-all g c = λ _. IfOk-from_err _ _ c.from_residual-in_err-discard_all-in-Ok-false.ensures.0
+
+pub returns-in_err-discard_all-in-Ok-false-clause-said : goal.returns-in_err-discard_all-in-Ok-false-clause-said
+returns-in_err-discard_all-in-Ok-false-clause-said g c = IfOk-from_err _ _ c.from_residual-in_err-discard_all-in-Ok-false.ensures.0
+
+pub returns-in_err-discard_all-in-Err-clause-made : goal.returns-in_err-discard_all-in-Err-clause-made
+returns-in_err-discard_all-in-Err-clause-made g c = IfOk-from_err _ _ c.from_residual-in_err-discard_all-in-Err.ensures.0
+
+pub returns-in_err-discard_all-in-Err-clause-checked : goal.returns-in_err-discard_all-in-Err-clause-checked
+returns-in_err-discard_all-in-Err-clause-checked g c = IfOk-from_err _ _ c.from_residual-in_err-discard_all-in-Err.ensures.0
+
+pub returns-in_err-discard_all-in-Err-clause-all : goal.returns-in_err-discard_all-in-Err-clause-all
+returns-in_err-discard_all-in-Err-clause-all g c = λ _. IfOk-from_err _ _ c.from_residual-in_err-discard_all-in-Err.ensures.0
+
+pub returns-in_err-discard_all-in-Err-clause-said : goal.returns-in_err-discard_all-in-Err-clause-said
+returns-in_err-discard_all-in-Err-clause-said g c = IfOk-from_err _ _ c.from_residual-in_err-discard_all-in-Err.ensures.0
+
+pub returns-in_err-files-clause-kept : goal.returns-in_err-files-clause-kept
+returns-in_err-files-clause-kept g c = λ given from before. c.new_files.ensures.kept given from before
+
+pub returns-in_default-clause-kept : goal.returns-in_default-clause-kept
+returns-in_default-clause-kept g c = λ given from before. c.new_files.ensures.kept given from before
+
+pub returns-in_err-note_all-in-Ok-true-clause-kept : goal.returns-in_err-note_all-in-Ok-true-clause-kept
+returns-in_err-note_all-in-Ok-true-clause-kept g c = λ given from before. c.new_files.ensures.kept given from before
+
+pub returns-in_ok-note_all-in-Ok-true-clause-kept : goal.returns-in_ok-note_all-in-Ok-true-clause-kept
+returns-in_ok-note_all-in-Ok-true-clause-kept g c = λ given from before. c.new_files.ensures.kept given from before
+
+pub returns-in_err-discard_all-in-Ok-false-clause-kept : goal.returns-in_err-discard_all-in-Ok-false-clause-kept
+returns-in_err-discard_all-in-Ok-false-clause-kept g c = λ given from before.
+    c.discard_all.ensures.kept _ given from (c.new_files.ensures.kept given from before)
+
+pub returns-in_ok-discard_all-in-Ok-false-clause-kept : goal.returns-in_ok-discard_all-in-Ok-false-clause-kept
+returns-in_ok-discard_all-in-Ok-false-clause-kept g c = λ given from before.
+    c.discard_all.ensures.kept _ given from (c.new_files.ensures.kept given from before)
+
+pub returns-in_err-discard_all-in-Err-clause-kept : goal.returns-in_err-discard_all-in-Err-clause-kept
+returns-in_err-discard_all-in-Err-clause-kept g c = λ given from before.
+    c.discard_all-in-Err.ensures.kept _ given from (c.new_files.ensures.kept given from before)
+
+pub returns-in_ok-discard_all-in-Err-clause-kept : goal.returns-in_ok-discard_all-in-Err-clause-kept
+returns-in_ok-discard_all-in-Err-clause-kept g c = λ given from before.
+    c.discard_all-in-Err.ensures.kept _ given from (c.new_files.ensures.kept given from before)
+
+pub returns-in_default-clause-made : goal.returns-in_default-clause-made
+returns-in_default-clause-made g c = tt
+
+pub returns-in_default-clause-checked : goal.returns-in_default-clause-checked
+returns-in_default-clause-checked g c = tt
+
+pub returns-in_default-clause-all : goal.returns-in_default-clause-all
+returns-in_default-clause-all g c = λ _. tt
+
+pub returns-in_ok-note_all-in-Ok-true-clause-said : goal.returns-in_ok-note_all-in-Ok-true-clause-said
+returns-in_ok-note_all-in-Ok-true-clause-said g c = tt

@@ -6,6 +6,7 @@ use Rattle.stores.specs.Shown.{AreShown}
 use Rattle.store_repair.specs.Windows.{IsMendedWindow, IsWritten, window}
 use Rattle.store_repair.proofs.MendLemmas.{mended_file, written_more, zero_more, zero_window}
 use Rattle.store_repair.proofs.WindowLemmas.{shown_length}
+use Rattle.std.proofs.lemmas.Result.{IfOk-from_err}
 use Rattle.store_repair.proofs.mending.mend.Goals as goal
 
 pub returns-then-not-branch-clause-mended : goal.returns-then-not-branch-clause-mended
@@ -55,3 +56,15 @@ returns-clause-mended g c = λ at are whole.
           (subst (λ n. IsWritten at n (get_or plan.rows.items k []) (g.N.NewFragment.shown (get_or c.windows.files k e))) end
           (c.windows.invariant.written at are k [] e lt)),
     )
+
+pub returns-in_err-plan-clause-mended : goal.returns-in_err-plan-clause-mended
+returns-in_err-plan-clause-mended g c = λ _ _ _. IfOk-from_err _ _ c.from_residual.ensures.0
+
+pub returns-in_err-rooms_for-clause-mended : goal.returns-in_err-rooms_for-clause-mended
+returns-in_err-rooms_for-clause-mended g c = λ _ _ _. IfOk-from_err _ _ c.from_residual-in_err-rooms_for.ensures.0
+
+pub returns-in_err-from_elem-clause-mended : goal.returns-in_err-from_elem-clause-mended
+returns-in_err-from_elem-clause-mended g c = λ _ _ _. IfOk-from_err _ _ c.from_residual-in_err-from_elem.ensures.0
+
+pub returns-in_err-mend_window-clause-mended : goal.returns-in_err-mend_window-clause-mended
+returns-in_err-mend_window-clause-mended g c = λ _ _ _. IfOk-from_err _ _ c.from_residual-in_err-mend_window.ensures.0

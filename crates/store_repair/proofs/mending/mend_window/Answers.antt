@@ -4,6 +4,7 @@ use Rattle.std.proofs.lemmas.List.{take_at}
 use Rattle.lrc_plan.specs.Stripes.{AreZeroRows}
 use Rattle.store_repair.specs.Windows.{AreAppended, HaveOrNone}
 use Rattle.store_repair.proofs.NotedLemmas.{as_long}
+use Rattle.std.proofs.lemmas.Result.{IfOk-from_err}
 use Rattle.store_repair.proofs.mending.mend_window.Goals as goal
 
 pub returns-then-not-are_zero-clause-window : goal.returns-then-not-are_zero-clause-window
@@ -54,3 +55,12 @@ append_sums-requires-clause-sizes g c =
     let size : c.args.window.size ≡ length c.slice_mut-sums.result.now = omega arith in
     subst (HaveOrNone (length c.slice_mut-sums.result.now)) (sym same)
     (subst (λ n. HaveOrNone n (map (λ room. room.items) c.read_window.new.rooms)) size c.in_default.ensures.sizes)
+
+pub returns-in_err-slices-clause-window : goal.returns-in_err-slices-clause-window
+returns-in_err-slices-clause-window g c = λ _ _. IfOk-from_err _ _ c.from_residual.ensures.0
+
+pub returns-in-Err-clause-window : goal.returns-in-Err-clause-window
+returns-in-Err-clause-window g c = λ _ _. tt
+
+pub returns-in-Err-append_sums-clause-window : goal.returns-in-Err-append_sums-clause-window
+returns-in-Err-append_sums-clause-window g c = λ _ _. tt

@@ -7,6 +7,7 @@ use Rattle.store_repair.specs.Opened.{AreOpened}
 use Rattle.lrc_code.proofs.PlaceSums.{index_of-lt}
 use Rattle.store_repair.proofs.AccountedLemmas.{found_next, opened_next}
 use Rattle.store_repair.proofs.OpenedLemmas.{opened_more}
+use Rattle.std.proofs.lemmas.Result.{IfOk-from_err}
 use Rattle.store_repair.proofs.opening.open_all.Goals as goal
 use Rattle.store_repair.proofs.opening.open_all.Goals.{then-is_some, else-is_some}
 
@@ -42,3 +43,66 @@ places-preserved g c =
 pub returns-clause-named : goal.returns-clause-named
 returns-clause-named g c = λ p.
     c.places.invariant.named p (let lt = index_of-lt p in let end = c.places-test.false in omega (arith, lt, end))
+
+pub returns-in_err-fragments-clause-sixteen : goal.returns-in_err-fragments-clause-sixteen
+returns-in_err-fragments-clause-sixteen g c = IfOk-from_err _ _ c.from_residual.ensures.0
+
+pub returns-in_err-fragments-clause-length : goal.returns-in_err-fragments-clause-length
+returns-in_err-fragments-clause-length g c = IfOk-from_err _ _ c.from_residual.ensures.0
+
+pub returns-in_err-fragments-clause-opened : goal.returns-in_err-fragments-clause-opened
+returns-in_err-fragments-clause-opened g c = IfOk-from_err _ _ c.from_residual.ensures.0
+
+pub returns-in_err-fragments-clause-said : goal.returns-in_err-fragments-clause-said
+returns-in_err-fragments-clause-said g c = IfOk-from_err _ _ c.from_residual.ensures.0
+
+pub returns-in_err-fragments-clause-stay : goal.returns-in_err-fragments-clause-stay
+returns-in_err-fragments-clause-stay g c = IfOk-from_err _ _ c.from_residual.ensures.0
+
+pub returns-in_err-fragments-clause-named : goal.returns-in_err-fragments-clause-named
+returns-in_err-fragments-clause-named g c = IfOk-from_err _ _ c.from_residual.ensures.0
+
+pub returns-in_err-fragments-clause-found : goal.returns-in_err-fragments-clause-found
+returns-in_err-fragments-clause-found g c = IfOk-from_err _ _ c.from_residual.ensures.0
+
+pub returns-in_err-fragment-clause-sixteen : goal.returns-in_err-fragment-clause-sixteen
+returns-in_err-fragment-clause-sixteen g c = IfOk-from_err _ _ c.from_residual-in_err-fragment.ensures.0
+
+pub returns-in_err-fragment-clause-length : goal.returns-in_err-fragment-clause-length
+returns-in_err-fragment-clause-length g c = IfOk-from_err _ _ c.from_residual-in_err-fragment.ensures.0
+
+pub returns-in_err-fragment-clause-opened : goal.returns-in_err-fragment-clause-opened
+returns-in_err-fragment-clause-opened g c = IfOk-from_err _ _ c.from_residual-in_err-fragment.ensures.0
+
+pub returns-in_err-fragment-clause-said : goal.returns-in_err-fragment-clause-said
+returns-in_err-fragment-clause-said g c = IfOk-from_err _ _ c.from_residual-in_err-fragment.ensures.0
+
+pub returns-in_err-fragment-clause-stay : goal.returns-in_err-fragment-clause-stay
+returns-in_err-fragment-clause-stay g c = IfOk-from_err _ _ c.from_residual-in_err-fragment.ensures.0
+
+pub returns-in_err-fragment-clause-named : goal.returns-in_err-fragment-clause-named
+returns-in_err-fragment-clause-named g c = IfOk-from_err _ _ c.from_residual-in_err-fragment.ensures.0
+
+pub returns-in_err-fragment-clause-found : goal.returns-in_err-fragment-clause-found
+returns-in_err-fragment-clause-found g c = IfOk-from_err _ _ c.from_residual-in_err-fragment.ensures.0
+
+pub returns-in_err-push-clause-sixteen : goal.returns-in_err-push-clause-sixteen
+returns-in_err-push-clause-sixteen g c = IfOk-from_err _ _ c.from_residual-in_err-push.ensures.0
+
+pub returns-in_err-push-clause-length : goal.returns-in_err-push-clause-length
+returns-in_err-push-clause-length g c = IfOk-from_err _ _ c.from_residual-in_err-push.ensures.0
+
+pub returns-in_err-push-clause-opened : goal.returns-in_err-push-clause-opened
+returns-in_err-push-clause-opened g c = IfOk-from_err _ _ c.from_residual-in_err-push.ensures.0
+
+pub returns-in_err-push-clause-said : goal.returns-in_err-push-clause-said
+returns-in_err-push-clause-said g c = IfOk-from_err _ _ c.from_residual-in_err-push.ensures.0
+
+pub returns-in_err-push-clause-stay : goal.returns-in_err-push-clause-stay
+returns-in_err-push-clause-stay g c = IfOk-from_err _ _ c.from_residual-in_err-push.ensures.0
+
+pub returns-in_err-push-clause-named : goal.returns-in_err-push-clause-named
+returns-in_err-push-clause-named g c = IfOk-from_err _ _ c.from_residual-in_err-push.ensures.0
+
+pub returns-in_err-push-clause-found : goal.returns-in_err-push-clause-found
+returns-in_err-push-clause-found g c = IfOk-from_err _ _ c.from_residual-in_err-push.ensures.0

@@ -6,6 +6,7 @@ use Rattle.store_repair.specs.Findings.{named}
 use Rattle.store_repair.proofs.AccountedLemmas.{found_but, opened_but}
 use Rattle.store_repair.proofs.NotedLemmas.{named_still}
 use Rattle.store_repair.proofs.RepairLemmas.{opened_less}
+use Rattle.std.proofs.lemmas.Result.{IfOk-from_err}
 use Rattle.store_repair.proofs.opening.open_survivors.Goals as goal
 
 pub refused-preserved : goal.refused-preserved
@@ -31,3 +32,66 @@ refused-preserved g c =
           (opened_less shown code stripe c.args.length files old.set new.set old.fragments.items c.in-Some.field-0.place
           so.sixteen c.leave_out.ensures.set so.opened);
     }
+
+pub returns-in_err-opened-clause-sixteen : goal.returns-in_err-opened-clause-sixteen
+returns-in_err-opened-clause-sixteen g c = IfOk-from_err _ _ c.from_residual.ensures.0
+
+pub returns-in_err-opened-clause-length : goal.returns-in_err-opened-clause-length
+returns-in_err-opened-clause-length g c = IfOk-from_err _ _ c.from_residual.ensures.0
+
+pub returns-in_err-opened-clause-opened : goal.returns-in_err-opened-clause-opened
+returns-in_err-opened-clause-opened g c = IfOk-from_err _ _ c.from_residual.ensures.0
+
+pub returns-in_err-opened-clause-said : goal.returns-in_err-opened-clause-said
+returns-in_err-opened-clause-said g c = IfOk-from_err _ _ c.from_residual.ensures.0
+
+pub returns-in_err-opened-clause-stay : goal.returns-in_err-opened-clause-stay
+returns-in_err-opened-clause-stay g c = IfOk-from_err _ _ c.from_residual.ensures.0
+
+pub returns-in_err-opened-clause-named : goal.returns-in_err-opened-clause-named
+returns-in_err-opened-clause-named g c = IfOk-from_err _ _ c.from_residual.ensures.0
+
+pub returns-in_err-opened-clause-found : goal.returns-in_err-opened-clause-found
+returns-in_err-opened-clause-found g c = IfOk-from_err _ _ c.from_residual.ensures.0
+
+pub returns-in_err-refused-clause-sixteen : goal.returns-in_err-refused-clause-sixteen
+returns-in_err-refused-clause-sixteen g c = IfOk-from_err _ _ c.from_residual-in_err-refused.ensures.0
+
+pub returns-in_err-refused-clause-length : goal.returns-in_err-refused-clause-length
+returns-in_err-refused-clause-length g c = IfOk-from_err _ _ c.from_residual-in_err-refused.ensures.0
+
+pub returns-in_err-refused-clause-opened : goal.returns-in_err-refused-clause-opened
+returns-in_err-refused-clause-opened g c = IfOk-from_err _ _ c.from_residual-in_err-refused.ensures.0
+
+pub returns-in_err-refused-clause-said : goal.returns-in_err-refused-clause-said
+returns-in_err-refused-clause-said g c = IfOk-from_err _ _ c.from_residual-in_err-refused.ensures.0
+
+pub returns-in_err-refused-clause-stay : goal.returns-in_err-refused-clause-stay
+returns-in_err-refused-clause-stay g c = IfOk-from_err _ _ c.from_residual-in_err-refused.ensures.0
+
+pub returns-in_err-refused-clause-named : goal.returns-in_err-refused-clause-named
+returns-in_err-refused-clause-named g c = IfOk-from_err _ _ c.from_residual-in_err-refused.ensures.0
+
+pub returns-in_err-refused-clause-found : goal.returns-in_err-refused-clause-found
+returns-in_err-refused-clause-found g c = IfOk-from_err _ _ c.from_residual-in_err-refused.ensures.0
+
+pub returns-in_err-note_unread-clause-sixteen : goal.returns-in_err-note_unread-clause-sixteen
+returns-in_err-note_unread-clause-sixteen g c = IfOk-from_err _ _ c.from_residual-in_err-note_unread.ensures.0
+
+pub returns-in_err-note_unread-clause-length : goal.returns-in_err-note_unread-clause-length
+returns-in_err-note_unread-clause-length g c = IfOk-from_err _ _ c.from_residual-in_err-note_unread.ensures.0
+
+pub returns-in_err-note_unread-clause-opened : goal.returns-in_err-note_unread-clause-opened
+returns-in_err-note_unread-clause-opened g c = IfOk-from_err _ _ c.from_residual-in_err-note_unread.ensures.0
+
+pub returns-in_err-note_unread-clause-said : goal.returns-in_err-note_unread-clause-said
+returns-in_err-note_unread-clause-said g c = IfOk-from_err _ _ c.from_residual-in_err-note_unread.ensures.0
+
+pub returns-in_err-note_unread-clause-stay : goal.returns-in_err-note_unread-clause-stay
+returns-in_err-note_unread-clause-stay g c = IfOk-from_err _ _ c.from_residual-in_err-note_unread.ensures.0
+
+pub returns-in_err-note_unread-clause-named : goal.returns-in_err-note_unread-clause-named
+returns-in_err-note_unread-clause-named g c = IfOk-from_err _ _ c.from_residual-in_err-note_unread.ensures.0
+
+pub returns-in_err-note_unread-clause-found : goal.returns-in_err-note_unread-clause-found
+returns-in_err-note_unread-clause-found g c = IfOk-from_err _ _ c.from_residual-in_err-note_unread.ensures.0

@@ -4,6 +4,7 @@ use Rattle.stores.specs.Stripes.{has_file}
 use Rattle.store_repair.specs.Opened.{AreFound, AreOpened}
 use Rattle.store_repair.proofs.AccountedLemmas.{without_length}
 use Rattle.store_repair.proofs.OpenedLemmas.{are_there}
+use Rattle.std.proofs.lemmas.Result.{IfOk-from_err}
 use Rattle.store_repair.proofs.planning.plan_stripe.Goals as goal
 use Rattle.store_repair.proofs.planning.plan_stripe.Goals.{in-All, in_default-matches}
 
@@ -87,3 +88,138 @@ returns-in-Some-2-clause-found g c =
     rw (c.in_ok-plan.ensures.survivors, c.in_ok-plan.ensures.length, long)
     (subst (λ o. IfSome o (λ few. AreFound c.args.repair.now.code c.args.stripe.now.files.found len (is_in few.opened.set))) c.in-Some-2.is
     c.in_ok-few.ensures.found)
+
+pub returns-in_err-known-clause-lost : goal.returns-in_err-known-clause-lost
+returns-in_err-known-clause-lost g c = IfOk-from_err _ _ c.from_residual.ensures.0
+
+pub returns-in_err-known-clause-apart : goal.returns-in_err-known-clause-apart
+returns-in_err-known-clause-apart g c = IfOk-from_err _ _ c.from_residual.ensures.0
+
+pub returns-in_err-known-clause-determined : goal.returns-in_err-known-clause-determined
+returns-in_err-known-clause-determined g c = IfOk-from_err _ _ c.from_residual.ensures.0
+
+pub returns-in_err-known-clause-all : goal.returns-in_err-known-clause-all
+returns-in_err-known-clause-all g c = λ _. IfOk-from_err _ _ c.from_residual.ensures.0
+
+pub returns-in_err-known-clause-absent : goal.returns-in_err-known-clause-absent
+returns-in_err-known-clause-absent g c = IfOk-from_err _ _ c.from_residual.ensures.0
+
+pub returns-in_err-known-clause-unopened : goal.returns-in_err-known-clause-unopened
+returns-in_err-known-clause-unopened g c = λ _. IfOk-from_err _ _ c.from_residual.ensures.0
+
+pub returns-in_err-known-clause-opened : goal.returns-in_err-known-clause-opened
+returns-in_err-known-clause-opened g c = IfOk-from_err _ _ c.from_residual.ensures.0
+
+pub returns-in_err-known-clause-found : goal.returns-in_err-known-clause-found
+returns-in_err-known-clause-found g c = IfOk-from_err _ _ c.from_residual.ensures.0
+
+pub returns-in_err-known-clause-checked : goal.returns-in_err-known-clause-checked
+returns-in_err-known-clause-checked g c = IfOk-from_err _ _ c.from_residual.ensures.0
+
+pub returns-in_err-few-clause-lost : goal.returns-in_err-few-clause-lost
+returns-in_err-few-clause-lost g c = IfOk-from_err _ _ c.from_residual-in_err-few.ensures.0
+
+pub returns-in_err-few-clause-apart : goal.returns-in_err-few-clause-apart
+returns-in_err-few-clause-apart g c = IfOk-from_err _ _ c.from_residual-in_err-few.ensures.0
+
+pub returns-in_err-few-clause-determined : goal.returns-in_err-few-clause-determined
+returns-in_err-few-clause-determined g c = IfOk-from_err _ _ c.from_residual-in_err-few.ensures.0
+
+pub returns-in_err-few-clause-all : goal.returns-in_err-few-clause-all
+returns-in_err-few-clause-all g c = λ _. IfOk-from_err _ _ c.from_residual-in_err-few.ensures.0
+
+pub returns-in_err-few-clause-absent : goal.returns-in_err-few-clause-absent
+returns-in_err-few-clause-absent g c = IfOk-from_err _ _ c.from_residual-in_err-few.ensures.0
+
+pub returns-in_err-few-clause-unopened : goal.returns-in_err-few-clause-unopened
+returns-in_err-few-clause-unopened g c = λ _. IfOk-from_err _ _ c.from_residual-in_err-few.ensures.0
+
+pub returns-in_err-few-clause-opened : goal.returns-in_err-few-clause-opened
+returns-in_err-few-clause-opened g c = IfOk-from_err _ _ c.from_residual-in_err-few.ensures.0
+
+pub returns-in_err-few-clause-found : goal.returns-in_err-few-clause-found
+returns-in_err-few-clause-found g c = IfOk-from_err _ _ c.from_residual-in_err-few.ensures.0
+
+pub returns-in_err-few-clause-checked : goal.returns-in_err-few-clause-checked
+returns-in_err-few-clause-checked g c = IfOk-from_err _ _ c.from_residual-in_err-few.ensures.0
+
+pub returns-in_err-plan-clause-lost : goal.returns-in_err-plan-clause-lost
+returns-in_err-plan-clause-lost g c = IfOk-from_err _ _ c.from_residual-in_err-plan.ensures.0
+
+pub returns-in_err-plan-clause-apart : goal.returns-in_err-plan-clause-apart
+returns-in_err-plan-clause-apart g c = IfOk-from_err _ _ c.from_residual-in_err-plan.ensures.0
+
+pub returns-in_err-plan-clause-determined : goal.returns-in_err-plan-clause-determined
+returns-in_err-plan-clause-determined g c = IfOk-from_err _ _ c.from_residual-in_err-plan.ensures.0
+
+pub returns-in_err-plan-clause-all : goal.returns-in_err-plan-clause-all
+returns-in_err-plan-clause-all g c = λ _. IfOk-from_err _ _ c.from_residual-in_err-plan.ensures.0
+
+pub returns-in_err-plan-clause-absent : goal.returns-in_err-plan-clause-absent
+returns-in_err-plan-clause-absent g c = IfOk-from_err _ _ c.from_residual-in_err-plan.ensures.0
+
+pub returns-in_err-plan-clause-unopened : goal.returns-in_err-plan-clause-unopened
+returns-in_err-plan-clause-unopened g c = λ _. IfOk-from_err _ _ c.from_residual-in_err-plan.ensures.0
+
+pub returns-in_err-plan-clause-opened : goal.returns-in_err-plan-clause-opened
+returns-in_err-plan-clause-opened g c = IfOk-from_err _ _ c.from_residual-in_err-plan.ensures.0
+
+pub returns-in_err-plan-clause-found : goal.returns-in_err-plan-clause-found
+returns-in_err-plan-clause-found g c = IfOk-from_err _ _ c.from_residual-in_err-plan.ensures.0
+
+pub returns-in_err-plan-clause-checked : goal.returns-in_err-plan-clause-checked
+returns-in_err-plan-clause-checked g c = IfOk-from_err _ _ c.from_residual-in_err-plan.ensures.0
+
+pub returns-in_err-opened-clause-lost : goal.returns-in_err-opened-clause-lost
+returns-in_err-opened-clause-lost g c = IfOk-from_err _ _ c.from_residual-in_err-opened.ensures.0
+
+pub returns-in_err-opened-clause-apart : goal.returns-in_err-opened-clause-apart
+returns-in_err-opened-clause-apart g c = IfOk-from_err _ _ c.from_residual-in_err-opened.ensures.0
+
+pub returns-in_err-opened-clause-determined : goal.returns-in_err-opened-clause-determined
+returns-in_err-opened-clause-determined g c = IfOk-from_err _ _ c.from_residual-in_err-opened.ensures.0
+
+pub returns-in_err-opened-clause-all : goal.returns-in_err-opened-clause-all
+returns-in_err-opened-clause-all g c = λ _. IfOk-from_err _ _ c.from_residual-in_err-opened.ensures.0
+
+pub returns-in_err-opened-clause-absent : goal.returns-in_err-opened-clause-absent
+returns-in_err-opened-clause-absent g c = IfOk-from_err _ _ c.from_residual-in_err-opened.ensures.0
+
+pub returns-in_err-opened-clause-unopened : goal.returns-in_err-opened-clause-unopened
+returns-in_err-opened-clause-unopened g c = λ _. IfOk-from_err _ _ c.from_residual-in_err-opened.ensures.0
+
+pub returns-in_err-opened-clause-opened : goal.returns-in_err-opened-clause-opened
+returns-in_err-opened-clause-opened g c = IfOk-from_err _ _ c.from_residual-in_err-opened.ensures.0
+
+pub returns-in_err-opened-clause-found : goal.returns-in_err-opened-clause-found
+returns-in_err-opened-clause-found g c = IfOk-from_err _ _ c.from_residual-in_err-opened.ensures.0
+
+pub returns-in_err-opened-clause-checked : goal.returns-in_err-opened-clause-checked
+returns-in_err-opened-clause-checked g c = IfOk-from_err _ _ c.from_residual-in_err-opened.ensures.0
+
+pub returns-in_err-plan-2-clause-lost : goal.returns-in_err-plan-2-clause-lost
+returns-in_err-plan-2-clause-lost g c = IfOk-from_err _ _ c.from_residual-in_err-plan-2.ensures.0
+
+pub returns-in_err-plan-2-clause-apart : goal.returns-in_err-plan-2-clause-apart
+returns-in_err-plan-2-clause-apart g c = IfOk-from_err _ _ c.from_residual-in_err-plan-2.ensures.0
+
+pub returns-in_err-plan-2-clause-determined : goal.returns-in_err-plan-2-clause-determined
+returns-in_err-plan-2-clause-determined g c = IfOk-from_err _ _ c.from_residual-in_err-plan-2.ensures.0
+
+pub returns-in_err-plan-2-clause-all : goal.returns-in_err-plan-2-clause-all
+returns-in_err-plan-2-clause-all g c = λ _. IfOk-from_err _ _ c.from_residual-in_err-plan-2.ensures.0
+
+pub returns-in_err-plan-2-clause-absent : goal.returns-in_err-plan-2-clause-absent
+returns-in_err-plan-2-clause-absent g c = IfOk-from_err _ _ c.from_residual-in_err-plan-2.ensures.0
+
+pub returns-in_err-plan-2-clause-unopened : goal.returns-in_err-plan-2-clause-unopened
+returns-in_err-plan-2-clause-unopened g c = λ _. IfOk-from_err _ _ c.from_residual-in_err-plan-2.ensures.0
+
+pub returns-in_err-plan-2-clause-opened : goal.returns-in_err-plan-2-clause-opened
+returns-in_err-plan-2-clause-opened g c = IfOk-from_err _ _ c.from_residual-in_err-plan-2.ensures.0
+
+pub returns-in_err-plan-2-clause-found : goal.returns-in_err-plan-2-clause-found
+returns-in_err-plan-2-clause-found g c = IfOk-from_err _ _ c.from_residual-in_err-plan-2.ensures.0
+
+pub returns-in_err-plan-2-clause-checked : goal.returns-in_err-plan-2-clause-checked
+returns-in_err-plan-2-clause-checked g c = IfOk-from_err _ _ c.from_residual-in_err-plan-2.ensures.0

@@ -1,4 +1,4 @@
-use Rattle.std.proofs.lemmas.Result.{IfOk-weaker}
+use Rattle.std.proofs.lemmas.Result.{IfOk-from_err, IfOk-weaker}
 use Rattle.store_repair.proofs.GivenLemmas.{placed_more, quiet_more}
 use Rattle.store_repair.proofs.KeptLemmas.{if_placed}
 use Rattle.std.proofs.Common.{subst, sym}
@@ -44,3 +44,27 @@ returns-in_ok-note-in-Leave-clause-grows g c = λ p has. named_still _ _ _ p c.i
 
 pub returns-in_ok-note-in-Leave-clause-said : goal.returns-in_ok-note-in-Leave-clause-said
 returns-in_ok-note-in-Leave-clause-said g c = λ _ _. named_now _ _ c.args.place c.in_ok-note-in-Leave.ensures.named
+
+pub returns-in_err-discard-in-Leave-clause-put : goal.returns-in_err-discard-in-Leave-clause-put
+returns-in_err-discard-in-Leave-clause-put g c = IfOk-from_err _ _ c.from_residual.ensures.0
+
+pub returns-in_err-discard-in-Leave-clause-grows : goal.returns-in_err-discard-in-Leave-clause-grows
+returns-in_err-discard-in-Leave-clause-grows g c = IfOk-from_err _ _ c.from_residual.ensures.0
+
+pub returns-in_err-discard-in-Leave-clause-said : goal.returns-in_err-discard-in-Leave-clause-said
+returns-in_err-discard-in-Leave-clause-said g c = IfOk-from_err _ _ c.from_residual.ensures.0
+
+pub returns-in_err-discard-in-Leave-clause-named : goal.returns-in_err-discard-in-Leave-clause-named
+returns-in_err-discard-in-Leave-clause-named g c = IfOk-from_err _ _ c.from_residual.ensures.0
+
+pub returns-in_err-note-in-Leave-clause-put : goal.returns-in_err-note-in-Leave-clause-put
+returns-in_err-note-in-Leave-clause-put g c = IfOk-from_err _ _ c.from_residual-in_err-note-in-Leave.ensures.0
+
+pub returns-in_err-note-in-Leave-clause-grows : goal.returns-in_err-note-in-Leave-clause-grows
+returns-in_err-note-in-Leave-clause-grows g c = IfOk-from_err _ _ c.from_residual-in_err-note-in-Leave.ensures.0
+
+pub returns-in_err-note-in-Leave-clause-said : goal.returns-in_err-note-in-Leave-clause-said
+returns-in_err-note-in-Leave-clause-said g c = IfOk-from_err _ _ c.from_residual-in_err-note-in-Leave.ensures.0
+
+pub returns-in_err-note-in-Leave-clause-named : goal.returns-in_err-note-in-Leave-clause-named
+returns-in_err-note-in-Leave-clause-named g c = IfOk-from_err _ _ c.from_residual-in_err-note-in-Leave.ensures.0

@@ -3,6 +3,7 @@ use Rattle.lrc_code.specs.Sets.{is_in}
 use Rattle.store_repair.specs.Losses.{AreChecked}
 use Rattle.store_repair.specs.Opened.{AreMade}
 use Rattle.store_repair.proofs.ShownLemmas.{all_accounted}
+use Rattle.std.proofs.lemmas.Result.{IfOk-from_err}
 use Rattle.store_repair.proofs.repairing.make_lost.Goals as goal
 use Rattle.store_repair.proofs.repairing.make_lost.Goals.{then-not-matches+in_ok-made+in_default-2, else-not-matches}
 
@@ -40,3 +41,33 @@ pub returns-clause-checked : goal.returns-clause-checked
 returns-clause-checked g c =
     subst (λ len. IfOk c.make.result (λ o. IfSome o (λ made. made.is_checked ≡ true → AreChecked c.args.repair.now.code (is_in made.set)
     len))) c.in_ok-opened.ensures.length c.make.ensures.checked
+
+pub returns-in_err-made-clause-made : goal.returns-in_err-made-clause-made
+returns-in_err-made-clause-made g c = IfOk-from_err _ _ c.from_residual.ensures.0
+
+pub returns-in_err-made-clause-checked : goal.returns-in_err-made-clause-checked
+returns-in_err-made-clause-checked g c = IfOk-from_err _ _ c.from_residual.ensures.0
+
+pub returns-in_err-made-clause-all : goal.returns-in_err-made-clause-all
+returns-in_err-made-clause-all g c = λ _. IfOk-from_err _ _ c.from_residual.ensures.0
+
+pub returns-in_err-made-clause-shown : goal.returns-in_err-made-clause-shown
+returns-in_err-made-clause-shown g c = λ _. IfOk-from_err _ _ c.from_residual.ensures.0
+
+pub returns-in_err-made-clause-said : goal.returns-in_err-made-clause-said
+returns-in_err-made-clause-said g c = IfOk-from_err _ _ c.from_residual.ensures.0
+
+pub returns-in_err-opened-clause-made : goal.returns-in_err-opened-clause-made
+returns-in_err-opened-clause-made g c = IfOk-from_err _ _ c.from_residual-in_err-opened.ensures.0
+
+pub returns-in_err-opened-clause-checked : goal.returns-in_err-opened-clause-checked
+returns-in_err-opened-clause-checked g c = IfOk-from_err _ _ c.from_residual-in_err-opened.ensures.0
+
+pub returns-in_err-opened-clause-all : goal.returns-in_err-opened-clause-all
+returns-in_err-opened-clause-all g c = λ _. IfOk-from_err _ _ c.from_residual-in_err-opened.ensures.0
+
+pub returns-in_err-opened-clause-shown : goal.returns-in_err-opened-clause-shown
+returns-in_err-opened-clause-shown g c = λ _. IfOk-from_err _ _ c.from_residual-in_err-opened.ensures.0
+
+pub returns-in_err-opened-clause-said : goal.returns-in_err-opened-clause-said
+returns-in_err-opened-clause-said g c = IfOk-from_err _ _ c.from_residual-in_err-opened.ensures.0

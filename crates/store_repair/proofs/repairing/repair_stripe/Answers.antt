@@ -1,4 +1,4 @@
-use Rattle.std.proofs.Common.{◌≢◌, [], ◌++◌, All, IfSome, subst, sym, false}
+use Rattle.std.proofs.Common.{◌≢◌, ◌∙◌, [], ◌++◌, All, IfSome, refl, subst, sym, false, true≢false}
 use Rattle.std.specs.Prelude.{◌⊎◌, Contains, IfNone}
 use Rattle.lrc_code.specs.declared.places.Place.{Place}
 use Rattle.store_repair.specs.Findings.{AreAllMended, named}
@@ -12,7 +12,9 @@ use Rattle.store_repair.specs.Kept.{given_by}
 use Rattle.store_repair.proofs.GivenLemmas.{given_none_mended, given_some_mended}
 use Rattle.store_repair.proofs.KeptLemmas.{are_fit, either_after, none_done, none_given, off_with, some_done, some_given}
 use Rattle.store_repair.proofs.RepairLemmas.{are_rebuilt, untouched_if, untouched_unless}
+use Rattle.store_repair.proofs.SameLemmas.{none_rebuilt, replaces_same, untouched_same}
 use Rattle.store_repair.proofs.ShownLemmas.{none_shown, shown_later}
+use Rattle.std.proofs.lemmas.Result.{IfOk-from_err}
 use Rattle.store_repair.proofs.repairing.repair_stripe.Goals as goal
 
 pub returns-clause-rebuilt : goal.returns-clause-rebuilt
@@ -378,3 +380,238 @@ returns-in_err-append-clause-untouched g c =
     let new = files c.put_all.new.store in
     subst (λ old. AreUntouched r s old new) c.make_lost.ensures.same
     (untouched_if r c.in-Some-made.made.is_checked s (files c.make_lost.new.store) new c.put_all.ensures.untouched)
+
+pub returns-in_err-known-clause-unchecked : goal.returns-in_err-known-clause-unchecked
+returns-in_err-known-clause-unchecked g c = IfOk-from_err _ _ c.from_residual.ensures.0
+
+pub returns-in_err-known-clause-checked : goal.returns-in_err-known-clause-checked
+returns-in_err-known-clause-checked g c = IfOk-from_err _ _ c.from_residual.ensures.0
+
+pub returns-in_err-known-clause-replaced : goal.returns-in_err-known-clause-replaced
+returns-in_err-known-clause-replaced g c = IfOk-from_err _ _ c.from_residual.ensures.0
+
+pub returns-in_err-known-clause-whole : goal.returns-in_err-known-clause-whole
+returns-in_err-known-clause-whole g c = λ _. IfOk-from_err _ _ c.from_residual.ensures.0
+
+pub returns-in_err-known-clause-shown : goal.returns-in_err-known-clause-shown
+returns-in_err-known-clause-shown g c = λ _. IfOk-from_err _ _ c.from_residual.ensures.0
+
+pub returns-in_err-known-clause-rebuilt : goal.returns-in_err-known-clause-rebuilt
+returns-in_err-known-clause-rebuilt g c = IfOk-from_err _ _ c.from_residual.ensures.0
+
+pub returns-in_err-known-clause-done : goal.returns-in_err-known-clause-done
+returns-in_err-known-clause-done g c = λ _. IfOk-from_err _ _ c.from_residual.ensures.0
+
+pub returns-in_err-made-clause-unchecked : goal.returns-in_err-made-clause-unchecked
+returns-in_err-made-clause-unchecked g c = IfOk-from_err _ _ c.from_residual-in_err-made.ensures.0
+
+pub returns-in_err-made-clause-checked : goal.returns-in_err-made-clause-checked
+returns-in_err-made-clause-checked g c = IfOk-from_err _ _ c.from_residual-in_err-made.ensures.0
+
+pub returns-in_err-made-clause-replaced : goal.returns-in_err-made-clause-replaced
+returns-in_err-made-clause-replaced g c = IfOk-from_err _ _ c.from_residual-in_err-made.ensures.0
+
+pub returns-in_err-made-clause-whole : goal.returns-in_err-made-clause-whole
+returns-in_err-made-clause-whole g c = λ _. IfOk-from_err _ _ c.from_residual-in_err-made.ensures.0
+
+pub returns-in_err-made-clause-shown : goal.returns-in_err-made-clause-shown
+returns-in_err-made-clause-shown g c = λ _. IfOk-from_err _ _ c.from_residual-in_err-made.ensures.0
+
+pub returns-in_err-made-clause-rebuilt : goal.returns-in_err-made-clause-rebuilt
+returns-in_err-made-clause-rebuilt g c = IfOk-from_err _ _ c.from_residual-in_err-made.ensures.0
+
+pub returns-in_err-made-clause-done : goal.returns-in_err-made-clause-done
+returns-in_err-made-clause-done g c = λ _. IfOk-from_err _ _ c.from_residual-in_err-made.ensures.0
+
+pub returns-in_err-note_unknown-clause-unchecked : goal.returns-in_err-note_unknown-clause-unchecked
+returns-in_err-note_unknown-clause-unchecked g c = IfOk-from_err _ _ c.from_residual-in_err-note_unknown.ensures.0
+
+pub returns-in_err-note_unknown-clause-checked : goal.returns-in_err-note_unknown-clause-checked
+returns-in_err-note_unknown-clause-checked g c = IfOk-from_err _ _ c.from_residual-in_err-note_unknown.ensures.0
+
+pub returns-in_err-note_unknown-clause-replaced : goal.returns-in_err-note_unknown-clause-replaced
+returns-in_err-note_unknown-clause-replaced g c = IfOk-from_err _ _ c.from_residual-in_err-note_unknown.ensures.0
+
+pub returns-in_err-note_unknown-clause-whole : goal.returns-in_err-note_unknown-clause-whole
+returns-in_err-note_unknown-clause-whole g c = λ _. IfOk-from_err _ _ c.from_residual-in_err-note_unknown.ensures.0
+
+pub returns-in_err-note_unknown-clause-shown : goal.returns-in_err-note_unknown-clause-shown
+returns-in_err-note_unknown-clause-shown g c = λ _. IfOk-from_err _ _ c.from_residual-in_err-note_unknown.ensures.0
+
+pub returns-in_err-note_unknown-clause-rebuilt : goal.returns-in_err-note_unknown-clause-rebuilt
+returns-in_err-note_unknown-clause-rebuilt g c = IfOk-from_err _ _ c.from_residual-in_err-note_unknown.ensures.0
+
+pub returns-in_err-note_unknown-clause-done : goal.returns-in_err-note_unknown-clause-done
+returns-in_err-note_unknown-clause-done g c = λ _. IfOk-from_err _ _ c.from_residual-in_err-note_unknown.ensures.0
+
+pub returns-in_err-settle-clause-unchecked : goal.returns-in_err-settle-clause-unchecked
+returns-in_err-settle-clause-unchecked g c = IfOk-from_err _ _ c.from_residual-in_err-settle.ensures.0
+
+pub returns-in_err-settle-clause-checked : goal.returns-in_err-settle-clause-checked
+returns-in_err-settle-clause-checked g c = IfOk-from_err _ _ c.from_residual-in_err-settle.ensures.0
+
+pub returns-in_err-settle-clause-replaced : goal.returns-in_err-settle-clause-replaced
+returns-in_err-settle-clause-replaced g c = IfOk-from_err _ _ c.from_residual-in_err-settle.ensures.0
+
+pub returns-in_err-settle-clause-whole : goal.returns-in_err-settle-clause-whole
+returns-in_err-settle-clause-whole g c = λ _. IfOk-from_err _ _ c.from_residual-in_err-settle.ensures.0
+
+pub returns-in_err-settle-clause-shown : goal.returns-in_err-settle-clause-shown
+returns-in_err-settle-clause-shown g c = λ _. IfOk-from_err _ _ c.from_residual-in_err-settle.ensures.0
+
+pub returns-in_err-settle-clause-rebuilt : goal.returns-in_err-settle-clause-rebuilt
+returns-in_err-settle-clause-rebuilt g c = IfOk-from_err _ _ c.from_residual-in_err-settle.ensures.0
+
+pub returns-in_err-settle-clause-done : goal.returns-in_err-settle-clause-done
+returns-in_err-settle-clause-done g c = λ _. IfOk-from_err _ _ c.from_residual-in_err-settle.ensures.0
+
+pub returns-in_err-discard_all-clause-unchecked : goal.returns-in_err-discard_all-clause-unchecked
+returns-in_err-discard_all-clause-unchecked g c = IfOk-from_err _ _ c.from_residual-in_err-discard_all.ensures.0
+
+pub returns-in_err-discard_all-clause-checked : goal.returns-in_err-discard_all-clause-checked
+returns-in_err-discard_all-clause-checked g c = IfOk-from_err _ _ c.from_residual-in_err-discard_all.ensures.0
+
+pub returns-in_err-discard_all-clause-replaced : goal.returns-in_err-discard_all-clause-replaced
+returns-in_err-discard_all-clause-replaced g c = IfOk-from_err _ _ c.from_residual-in_err-discard_all.ensures.0
+
+pub returns-in_err-discard_all-clause-whole : goal.returns-in_err-discard_all-clause-whole
+returns-in_err-discard_all-clause-whole g c = λ _. IfOk-from_err _ _ c.from_residual-in_err-discard_all.ensures.0
+
+pub returns-in_err-discard_all-clause-shown : goal.returns-in_err-discard_all-clause-shown
+returns-in_err-discard_all-clause-shown g c = λ _. IfOk-from_err _ _ c.from_residual-in_err-discard_all.ensures.0
+
+pub returns-in_err-discard_all-clause-rebuilt : goal.returns-in_err-discard_all-clause-rebuilt
+returns-in_err-discard_all-clause-rebuilt g c = IfOk-from_err _ _ c.from_residual-in_err-discard_all.ensures.0
+
+pub returns-in_err-discard_all-clause-done : goal.returns-in_err-discard_all-clause-done
+returns-in_err-discard_all-clause-done g c = λ _. IfOk-from_err _ _ c.from_residual-in_err-discard_all.ensures.0
+
+pub returns-in_err-settle-2-clause-unchecked : goal.returns-in_err-settle-2-clause-unchecked
+returns-in_err-settle-2-clause-unchecked g c = IfOk-from_err _ _ c.from_residual-in_err-settle-2.ensures.0
+
+pub returns-in_err-settle-2-clause-checked : goal.returns-in_err-settle-2-clause-checked
+returns-in_err-settle-2-clause-checked g c = IfOk-from_err _ _ c.from_residual-in_err-settle-2.ensures.0
+
+pub returns-in_err-settle-2-clause-replaced : goal.returns-in_err-settle-2-clause-replaced
+returns-in_err-settle-2-clause-replaced g c = IfOk-from_err _ _ c.from_residual-in_err-settle-2.ensures.0
+
+pub returns-in_err-settle-2-clause-whole : goal.returns-in_err-settle-2-clause-whole
+returns-in_err-settle-2-clause-whole g c = λ _. IfOk-from_err _ _ c.from_residual-in_err-settle-2.ensures.0
+
+pub returns-in_err-settle-2-clause-shown : goal.returns-in_err-settle-2-clause-shown
+returns-in_err-settle-2-clause-shown g c = λ _. IfOk-from_err _ _ c.from_residual-in_err-settle-2.ensures.0
+
+pub returns-in_err-settle-2-clause-rebuilt : goal.returns-in_err-settle-2-clause-rebuilt
+returns-in_err-settle-2-clause-rebuilt g c = IfOk-from_err _ _ c.from_residual-in_err-settle-2.ensures.0
+
+pub returns-in_err-settle-2-clause-done : goal.returns-in_err-settle-2-clause-done
+returns-in_err-settle-2-clause-done g c = λ _. IfOk-from_err _ _ c.from_residual-in_err-settle-2.ensures.0
+
+pub returns-in_err-rebuilt-clause-unchecked : goal.returns-in_err-rebuilt-clause-unchecked
+returns-in_err-rebuilt-clause-unchecked g c = IfOk-from_err _ _ c.from_residual-in_err-rebuilt.ensures.0
+
+pub returns-in_err-rebuilt-clause-checked : goal.returns-in_err-rebuilt-clause-checked
+returns-in_err-rebuilt-clause-checked g c = IfOk-from_err _ _ c.from_residual-in_err-rebuilt.ensures.0
+
+pub returns-in_err-rebuilt-clause-replaced : goal.returns-in_err-rebuilt-clause-replaced
+returns-in_err-rebuilt-clause-replaced g c = IfOk-from_err _ _ c.from_residual-in_err-rebuilt.ensures.0
+
+pub returns-in_err-rebuilt-clause-whole : goal.returns-in_err-rebuilt-clause-whole
+returns-in_err-rebuilt-clause-whole g c = λ _. IfOk-from_err _ _ c.from_residual-in_err-rebuilt.ensures.0
+
+pub returns-in_err-rebuilt-clause-shown : goal.returns-in_err-rebuilt-clause-shown
+returns-in_err-rebuilt-clause-shown g c = λ _. IfOk-from_err _ _ c.from_residual-in_err-rebuilt.ensures.0
+
+pub returns-in_err-rebuilt-clause-rebuilt : goal.returns-in_err-rebuilt-clause-rebuilt
+returns-in_err-rebuilt-clause-rebuilt g c = IfOk-from_err _ _ c.from_residual-in_err-rebuilt.ensures.0
+
+pub returns-in_err-rebuilt-clause-done : goal.returns-in_err-rebuilt-clause-done
+returns-in_err-rebuilt-clause-done g c = λ _. IfOk-from_err _ _ c.from_residual-in_err-rebuilt.ensures.0
+
+pub returns-in_err-append-clause-unchecked : goal.returns-in_err-append-clause-unchecked
+returns-in_err-append-clause-unchecked g c = IfOk-from_err _ _ c.from_residual-in_err-append.ensures.0
+
+pub returns-in_err-append-clause-checked : goal.returns-in_err-append-clause-checked
+returns-in_err-append-clause-checked g c = IfOk-from_err _ _ c.from_residual-in_err-append.ensures.0
+
+pub returns-in_err-append-clause-replaced : goal.returns-in_err-append-clause-replaced
+returns-in_err-append-clause-replaced g c = IfOk-from_err _ _ c.from_residual-in_err-append.ensures.0
+
+pub returns-in_err-append-clause-whole : goal.returns-in_err-append-clause-whole
+returns-in_err-append-clause-whole g c = λ _. IfOk-from_err _ _ c.from_residual-in_err-append.ensures.0
+
+pub returns-in_err-append-clause-shown : goal.returns-in_err-append-clause-shown
+returns-in_err-append-clause-shown g c = λ _. IfOk-from_err _ _ c.from_residual-in_err-append.ensures.0
+
+pub returns-in_err-append-clause-rebuilt : goal.returns-in_err-append-clause-rebuilt
+returns-in_err-append-clause-rebuilt g c = IfOk-from_err _ _ c.from_residual-in_err-append.ensures.0
+
+pub returns-in_err-append-clause-done : goal.returns-in_err-append-clause-done
+returns-in_err-append-clause-done g c = λ _. IfOk-from_err _ _ c.from_residual-in_err-append.ensures.0
+
+pub returns-in_err-known-clause-untouched : goal.returns-in_err-known-clause-untouched
+returns-in_err-known-clause-untouched g c = untouched_same _ _ _ _ refl
+
+pub returns-in_default-clause-untouched : goal.returns-in_default-clause-untouched
+returns-in_default-clause-untouched g c = untouched_same _ _ _ _ refl
+
+pub returns-in_default-clause-unchecked : goal.returns-in_default-clause-unchecked
+returns-in_default-clause-unchecked g c = λ _. untouched_same _ _ _ _ refl
+
+pub returns-in_default-clause-checked : goal.returns-in_default-clause-checked
+returns-in_default-clause-checked g c = λ is. absurd (true≢false (sym is ∙ c.of.ensures.checked))
+
+pub returns-in_default-clause-replaced : goal.returns-in_default-clause-replaced
+returns-in_default-clause-replaced g c = replaces_same _ _ _ _ refl
+
+pub returns-in_default-clause-rebuilt : goal.returns-in_default-clause-rebuilt
+returns-in_default-clause-rebuilt g c = none_rebuilt _ _ _ _ _ _ _ c.of.ensures.rebuilt
+
+pub returns-in_err-made-clause-untouched : goal.returns-in_err-made-clause-untouched
+returns-in_err-made-clause-untouched g c = untouched_same _ _ _ _ (c.make_lost.ensures.same)
+
+pub returns-in_err-note_unknown-clause-untouched : goal.returns-in_err-note_unknown-clause-untouched
+returns-in_err-note_unknown-clause-untouched g c = untouched_same _ _ _ _ (c.make_lost.ensures.same)
+
+pub returns-in_err-settle-clause-untouched : goal.returns-in_err-settle-clause-untouched
+returns-in_err-settle-clause-untouched g c = untouched_same _ _ _ _ (c.settle.ensures.same ∙ c.make_lost.ensures.same)
+
+pub returns-in_default-made-clause-untouched : goal.returns-in_default-made-clause-untouched
+returns-in_default-made-clause-untouched g c = untouched_same _ _ _ _ (c.settle.ensures.same ∙ c.make_lost.ensures.same)
+
+pub returns-in_default-made-clause-unchecked : goal.returns-in_default-made-clause-unchecked
+returns-in_default-made-clause-unchecked g c = λ _. untouched_same _ _ _ _ (c.settle.ensures.same ∙ c.make_lost.ensures.same)
+
+pub returns-in_default-made-clause-checked : goal.returns-in_default-made-clause-checked
+returns-in_default-made-clause-checked g c = λ is. absurd (true≢false (sym is ∙ c.of-in_default-made.ensures.checked))
+
+pub returns-in_default-made-clause-replaced : goal.returns-in_default-made-clause-replaced
+returns-in_default-made-clause-replaced g c = replaces_same _ _ _ _ (c.settle.ensures.same ∙ c.make_lost.ensures.same)
+
+pub returns-in_default-made-clause-rebuilt : goal.returns-in_default-made-clause-rebuilt
+returns-in_default-made-clause-rebuilt g c = none_rebuilt _ _ _ _ _ _ _ c.of-in_default-made.ensures.rebuilt
+
+pub returns-in_err-discard_all-clause-untouched : goal.returns-in_err-discard_all-clause-untouched
+returns-in_err-discard_all-clause-untouched g c = untouched_same _ _ _ _ (c.discard_all.ensures.same ∙ c.make_lost.ensures.same)
+
+pub returns-in_err-settle-2-clause-untouched : goal.returns-in_err-settle-2-clause-untouched
+returns-in_err-settle-2-clause-untouched g c =
+    untouched_same _ _ _ _ (c.settle-then-has_changed.ensures.same ∙ c.discard_all.ensures.same ∙ c.make_lost.ensures.same)
+
+pub returns-then-has_changed-clause-untouched : goal.returns-then-has_changed-clause-untouched
+returns-then-has_changed-clause-untouched g c =
+    untouched_same _ _ _ _ (c.settle-then-has_changed.ensures.same ∙ c.discard_all.ensures.same ∙ c.make_lost.ensures.same)
+
+pub returns-then-has_changed-clause-unchecked : goal.returns-then-has_changed-clause-unchecked
+returns-then-has_changed-clause-unchecked g c =
+    λ _. untouched_same _ _ _ _ (c.settle-then-has_changed.ensures.same ∙ c.discard_all.ensures.same ∙ c.make_lost.ensures.same)
+
+pub returns-then-has_changed-clause-checked : goal.returns-then-has_changed-clause-checked
+returns-then-has_changed-clause-checked g c = λ is. absurd (true≢false (sym is ∙ c.of-then-has_changed.ensures.checked))
+
+pub returns-then-has_changed-clause-replaced : goal.returns-then-has_changed-clause-replaced
+returns-then-has_changed-clause-replaced g c =
+    replaces_same _ _ _ _ (c.settle-then-has_changed.ensures.same ∙ c.discard_all.ensures.same ∙ c.make_lost.ensures.same)
+
+pub returns-then-has_changed-clause-rebuilt : goal.returns-then-has_changed-clause-rebuilt
+returns-then-has_changed-clause-rebuilt g c = none_rebuilt _ _ _ _ _ _ _ c.of-then-has_changed.ensures.rebuilt

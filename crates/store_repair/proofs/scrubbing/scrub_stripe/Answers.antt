@@ -11,6 +11,7 @@ use Rattle.store_repair.proofs.CheckLemmas.{fits_none, unchecked_possible}
 use Rattle.store_repair.proofs.OpenedLemmas.{are_there}
 use Rattle.store_repair.proofs.WindowLemmas.{shown_length}
 use Rattle.store_repair.proofs.ScrubLemmas.{damaged_fragments, none_said, of_one_stripe}
+use Rattle.std.proofs.lemmas.Result.{IfOk-from_err}
 use Rattle.store_repair.proofs.scrubbing.scrub_stripe.Goals as goal
 
 pub returns-in_default-clause-damaged : goal.returns-in_default-clause-damaged
@@ -87,3 +88,111 @@ returns-clause-whole g c = λ none.
 
 pub returns-in_default-clause-unchecked : goal.returns-in_default-clause-unchecked
 returns-in_default-clause-unchecked g c = λ off. fits_none c.args.code (is_in c.of.result.survivors) c.of.ensures.survivors
+
+pub returns-in_err-known-clause-damaged : goal.returns-in_err-known-clause-damaged
+returns-in_err-known-clause-damaged g c = IfOk-from_err _ _ c.from_residual.ensures.0
+
+pub returns-in_err-known-clause-silent : goal.returns-in_err-known-clause-silent
+returns-in_err-known-clause-silent g c = IfOk-from_err _ _ c.from_residual.ensures.0
+
+pub returns-in_err-known-clause-checked : goal.returns-in_err-known-clause-checked
+returns-in_err-known-clause-checked g c = IfOk-from_err _ _ c.from_residual.ensures.0
+
+pub returns-in_err-known-clause-unchecked : goal.returns-in_err-known-clause-unchecked
+returns-in_err-known-clause-unchecked g c = IfOk-from_err _ _ c.from_residual.ensures.0
+
+pub returns-in_err-known-clause-opened : goal.returns-in_err-known-clause-opened
+returns-in_err-known-clause-opened g c = IfOk-from_err _ _ c.from_residual.ensures.0
+
+pub returns-in_err-known-clause-found : goal.returns-in_err-known-clause-found
+returns-in_err-known-clause-found g c = IfOk-from_err _ _ c.from_residual.ensures.0
+
+pub returns-in_err-known-clause-all : goal.returns-in_err-known-clause-all
+returns-in_err-known-clause-all g c = IfOk-from_err _ _ c.from_residual.ensures.0
+
+pub returns-in_err-known-clause-rebuilt : goal.returns-in_err-known-clause-rebuilt
+returns-in_err-known-clause-rebuilt g c = IfOk-from_err _ _ c.from_residual.ensures.0
+
+pub returns-in_err-known-clause-whole : goal.returns-in_err-known-clause-whole
+returns-in_err-known-clause-whole g c = IfOk-from_err _ _ c.from_residual.ensures.0
+
+pub returns-in_err-note_lost-clause-damaged : goal.returns-in_err-note_lost-clause-damaged
+returns-in_err-note_lost-clause-damaged g c = IfOk-from_err _ _ c.from_residual-in_err-note_lost.ensures.0
+
+pub returns-in_err-note_lost-clause-silent : goal.returns-in_err-note_lost-clause-silent
+returns-in_err-note_lost-clause-silent g c = IfOk-from_err _ _ c.from_residual-in_err-note_lost.ensures.0
+
+pub returns-in_err-note_lost-clause-checked : goal.returns-in_err-note_lost-clause-checked
+returns-in_err-note_lost-clause-checked g c = IfOk-from_err _ _ c.from_residual-in_err-note_lost.ensures.0
+
+pub returns-in_err-note_lost-clause-unchecked : goal.returns-in_err-note_lost-clause-unchecked
+returns-in_err-note_lost-clause-unchecked g c = IfOk-from_err _ _ c.from_residual-in_err-note_lost.ensures.0
+
+pub returns-in_err-note_lost-clause-opened : goal.returns-in_err-note_lost-clause-opened
+returns-in_err-note_lost-clause-opened g c = IfOk-from_err _ _ c.from_residual-in_err-note_lost.ensures.0
+
+pub returns-in_err-note_lost-clause-found : goal.returns-in_err-note_lost-clause-found
+returns-in_err-note_lost-clause-found g c = IfOk-from_err _ _ c.from_residual-in_err-note_lost.ensures.0
+
+pub returns-in_err-note_lost-clause-all : goal.returns-in_err-note_lost-clause-all
+returns-in_err-note_lost-clause-all g c = IfOk-from_err _ _ c.from_residual-in_err-note_lost.ensures.0
+
+pub returns-in_err-note_lost-clause-rebuilt : goal.returns-in_err-note_lost-clause-rebuilt
+returns-in_err-note_lost-clause-rebuilt g c = IfOk-from_err _ _ c.from_residual-in_err-note_lost.ensures.0
+
+pub returns-in_err-note_lost-clause-whole : goal.returns-in_err-note_lost-clause-whole
+returns-in_err-note_lost-clause-whole g c = IfOk-from_err _ _ c.from_residual-in_err-note_lost.ensures.0
+
+pub returns-in_err-opened-clause-damaged : goal.returns-in_err-opened-clause-damaged
+returns-in_err-opened-clause-damaged g c = IfOk-from_err _ _ c.from_residual-in_err-opened.ensures.0
+
+pub returns-in_err-opened-clause-silent : goal.returns-in_err-opened-clause-silent
+returns-in_err-opened-clause-silent g c = IfOk-from_err _ _ c.from_residual-in_err-opened.ensures.0
+
+pub returns-in_err-opened-clause-checked : goal.returns-in_err-opened-clause-checked
+returns-in_err-opened-clause-checked g c = IfOk-from_err _ _ c.from_residual-in_err-opened.ensures.0
+
+pub returns-in_err-opened-clause-unchecked : goal.returns-in_err-opened-clause-unchecked
+returns-in_err-opened-clause-unchecked g c = IfOk-from_err _ _ c.from_residual-in_err-opened.ensures.0
+
+pub returns-in_err-opened-clause-opened : goal.returns-in_err-opened-clause-opened
+returns-in_err-opened-clause-opened g c = IfOk-from_err _ _ c.from_residual-in_err-opened.ensures.0
+
+pub returns-in_err-opened-clause-found : goal.returns-in_err-opened-clause-found
+returns-in_err-opened-clause-found g c = IfOk-from_err _ _ c.from_residual-in_err-opened.ensures.0
+
+pub returns-in_err-opened-clause-all : goal.returns-in_err-opened-clause-all
+returns-in_err-opened-clause-all g c = IfOk-from_err _ _ c.from_residual-in_err-opened.ensures.0
+
+pub returns-in_err-opened-clause-rebuilt : goal.returns-in_err-opened-clause-rebuilt
+returns-in_err-opened-clause-rebuilt g c = IfOk-from_err _ _ c.from_residual-in_err-opened.ensures.0
+
+pub returns-in_err-opened-clause-whole : goal.returns-in_err-opened-clause-whole
+returns-in_err-opened-clause-whole g c = IfOk-from_err _ _ c.from_residual-in_err-opened.ensures.0
+
+pub returns-in_err-test-clause-damaged : goal.returns-in_err-test-clause-damaged
+returns-in_err-test-clause-damaged g c = IfOk-from_err _ _ c.from_residual-in_err-test.ensures.0
+
+pub returns-in_err-test-clause-silent : goal.returns-in_err-test-clause-silent
+returns-in_err-test-clause-silent g c = IfOk-from_err _ _ c.from_residual-in_err-test.ensures.0
+
+pub returns-in_err-test-clause-checked : goal.returns-in_err-test-clause-checked
+returns-in_err-test-clause-checked g c = IfOk-from_err _ _ c.from_residual-in_err-test.ensures.0
+
+pub returns-in_err-test-clause-unchecked : goal.returns-in_err-test-clause-unchecked
+returns-in_err-test-clause-unchecked g c = IfOk-from_err _ _ c.from_residual-in_err-test.ensures.0
+
+pub returns-in_err-test-clause-opened : goal.returns-in_err-test-clause-opened
+returns-in_err-test-clause-opened g c = IfOk-from_err _ _ c.from_residual-in_err-test.ensures.0
+
+pub returns-in_err-test-clause-found : goal.returns-in_err-test-clause-found
+returns-in_err-test-clause-found g c = IfOk-from_err _ _ c.from_residual-in_err-test.ensures.0
+
+pub returns-in_err-test-clause-all : goal.returns-in_err-test-clause-all
+returns-in_err-test-clause-all g c = IfOk-from_err _ _ c.from_residual-in_err-test.ensures.0
+
+pub returns-in_err-test-clause-rebuilt : goal.returns-in_err-test-clause-rebuilt
+returns-in_err-test-clause-rebuilt g c = IfOk-from_err _ _ c.from_residual-in_err-test.ensures.0
+
+pub returns-in_err-test-clause-whole : goal.returns-in_err-test-clause-whole
+returns-in_err-test-clause-whole g c = IfOk-from_err _ _ c.from_residual-in_err-test.ensures.0
