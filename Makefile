@@ -165,12 +165,12 @@ try-ceph-releases: store
 	ceph/releases.sh
 
 # What the gate runs after the proofs, over the programs and tests that they leave in each crate's out/. No two of these share a file
-# that one of them writes, so several run at once.
-AFTER := $(addprefix gate/,refusals.py no-compile.py reference-lines.sh line-mode.py arguments.py lists.py farm-folders.py \
-  farm-calls.py farm-batches.py farm-shelves.py ends.sh examples.py manual.sh \
-  completions.sh install.sh version.sh numbers.py tables.py growth.py memory.py companion.py repair-store.py encode-store.py \
-  store-options.py store-disks.py store-strangers.py store-sharing.py store-watching.py store-files.py store-life.py store-damage.py \
-  store-faults.py file-faults.py packages.sh) tools/try.sh tools/demo.sh ceph/test.sh
+# that one of them writes, so several run at once: first those that take long with one processor, last those that use all.
+AFTER := tools/try.sh ceph/test.sh $(addprefix gate/,packages.sh refusals.py store-damage.py store-strangers.py no-compile.py \
+  reference-lines.sh line-mode.py arguments.py lists.py farm-folders.py farm-calls.py farm-batches.py farm-shelves.py ends.sh \
+  examples.py manual.sh completions.sh install.sh version.sh numbers.py tables.py growth.py memory.py repair-store.py encode-store.py \
+  store-options.py store-disks.py store-sharing.py store-watching.py store-files.py store-life.py store-faults.py file-faults.py) \
+  tools/demo.sh
 
 # What it runs before them, of sources and pages; none of these writes a file of the repository.
 BEFORE := $(addprefix gate/,formatted.sh wrong-bodies.sh architecture.py sweep.py documented.py pages.py sentences.py messages.py \
@@ -186,11 +186,12 @@ test:
 
 # A proof was seen to take 3 GB at most, less than rt allows for, so RT_JOBS has it run one on each processor, and two more, so that the
 # longest chain of crates doesn't wait while tests are proved, which give way to it. gate/library.sh builds in a copy of its own, over
-# crates of which lrc_plan is proved last, and gate/refused.py over those below farm_files and some of them, so both run beside the proofs
-# from then on, and beside the scripts that come after these.
+# crates of which lrc_plan is proved last, gate/refused.py tries edits over those below farm_files and some of them, and gate/companion.py
+# needs the program `rebuild` alone, so these run beside the proofs from then on, and beside the scripts that come after them.
 proofs:
 	tools/build.py settle
 	RT_JOBS=$(shell expr $$(nproc) + 2) tools/timed.py proofs --beside lrc_plan gate/library.sh --beside farm_files gate/refused.py \
+	  --beside rebuild gate/companion.py \
 	  --then 'make --no-print-directory --output-sync=target -j$(shell nproc) after' rt ci
 
 after: $(AFTER)

@@ -14,7 +14,7 @@ sys.dont_write_bytecode = True
 import refusals  # noqa: E402
 from served import (  # noqa: E402
     ABC, CLOSE, CODED_HEADER, DEVICE, FED_REPORT, FRAGMENT, FRAGMENTS, HEADER, LIST, LISTED, LIST_OF_FOUR, PX_LEFT_OUT, REPORT, ROW, WHOLE,
-    WIDE, WIDE_FRAGMENTS, WIDE_LIST, WITH_A_FEED, ZEROS, Checks, End, as_bytes, empty_racks, ended, fault, folders, found_in, put, rebuilt,
+    WIDE, WIDE_FRAGMENTS, WIDE_LIST, WITH_A_FEED, ZEROS, Checks, End, as_bytes, empty_racks, ended, fault, folders, found_in, rebuilt,
     report, served, words, zero_stripes)
 
 # The list with a byte order mark, and a carriage return before each line feed.
