@@ -242,6 +242,8 @@ def main(words):
 
 
 if __name__ == "__main__":
+    # The Python that runs this is found first: a wrapper of it, as pyenv has, starts a shell in each of some thousand runs.
+    os.environ["PATH"] = f"{pathlib.Path(sys.executable).parent}{os.pathsep}{os.environ['PATH']}"
     # What runs is then ended too.
     signal.signal(signal.SIGTERM, lambda *_: sys.exit(143))
     try:
