@@ -2,7 +2,7 @@
 ghost use Rattle.std.specs.Prelude.{◌<◌, ◌^◌};
 
 use crate::given::{given_bytes, number, word};
-use farm_shelves::{FileRead, FolderShelf, MemoryShelf, ReadAheadShelf, Shelf, ShelfFault};
+use farm_files::{FileRead, FolderShelf, MemoryShelf, ReadAheadShelf, Shelf, ShelfFault};
 use std::alloc::AllocError;
 use std::fs;
 use std::process::Abort;
