@@ -7,3 +7,4 @@ pub mod Kept
 pub mod Replaced
 pub mod Temporary
 pub mod Written
+mod Parts

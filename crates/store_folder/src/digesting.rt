@@ -108,14 +108,16 @@ fn read_eight<F: Fragment>(
     ensures room { length room.new ≡ length room.old }
     ensures reads { length reads.new ≡ length reads.old }
 {
-    read_one(fragments, 0, from, &mut room[..size], reads);
-    read_one(fragments, 1, from, &mut room[size..2 * size], reads);
-    read_one(fragments, 2, from, &mut room[2 * size..3 * size], reads);
-    read_one(fragments, 3, from, &mut room[3 * size..4 * size], reads);
-    read_one(fragments, 4, from, &mut room[4 * size..5 * size], reads);
-    read_one(fragments, 5, from, &mut room[5 * size..6 * size], reads);
-    read_one(fragments, 6, from, &mut room[6 * size..7 * size], reads);
-    read_one(fragments, 7, from, &mut room[7 * size..8 * size], reads);
+    for index in 0..LANES {
+        let start = index * size;
+        read_one(
+            fragments,
+            index,
+            from,
+            &mut room[start..start + size],
+            reads,
+        );
+    }
 }
 
 /// Reads bytes of the fragment at an index from a position on, if there is one of which no read failed before.
