@@ -75,3 +75,43 @@ returns-in_err-made-clause-said g c = IfOk-from_err c.from_residual.result _ c.f
 pub returns-in-GivenUp-clause-kept : goal.returns-in-GivenUp-clause-kept
 returns-in-GivenUp-clause-kept g c = λ given from before.
     c.in_ok-made.ensures.kept given from (c.attempts.invariant.kept given from before)
+
+pub returns-in_err-made-clause-same : goal.returns-in_err-made-clause-same
+returns-in_err-made-clause-same g c = c.make_from.ensures.same ∙ c.attempts.invariant.same
+
+pub returns-in-Made-clause-same : goal.returns-in-Made-clause-same
+returns-in-Made-clause-same g c = c.make_from.ensures.same ∙ c.attempts.invariant.same
+
+pub returns-in-GivenUp-clause-same : goal.returns-in-GivenUp-clause-same
+returns-in-GivenUp-clause-same g c = c.make_from.ensures.same ∙ c.attempts.invariant.same
+
+pub returns-clause-same : goal.returns-clause-same
+returns-clause-same g c = c.attempts.invariant.same
+
+pub returns-in-Made-clause-kept : goal.returns-in-Made-clause-kept
+returns-in-Made-clause-kept g c = λ given from before.
+    c.in_ok-made.ensures.kept given from (c.attempts.invariant.kept given from before)
+
+pub returns-clause-kept : goal.returns-clause-kept
+returns-clause-kept g c = c.attempts.invariant.kept
+
+pub returns-in-Made-clause-said : goal.returns-in-Made-clause-said
+returns-in-Made-clause-said g c = tt
+
+pub returns-in-GivenUp-clause-made : goal.returns-in-GivenUp-clause-made
+returns-in-GivenUp-clause-made g c = tt
+
+pub returns-in-GivenUp-clause-checked : goal.returns-in-GivenUp-clause-checked
+returns-in-GivenUp-clause-checked g c = tt
+
+pub returns-in-GivenUp-clause-all : goal.returns-in-GivenUp-clause-all
+returns-in-GivenUp-clause-all g c = λ _. tt
+
+pub returns-clause-made : goal.returns-clause-made
+returns-clause-made g c = tt
+
+pub returns-clause-checked : goal.returns-clause-checked
+returns-clause-checked g c = tt
+
+pub returns-clause-all : goal.returns-clause-all
+returns-clause-all g c = λ _. tt
