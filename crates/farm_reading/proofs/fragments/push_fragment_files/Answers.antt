@@ -1,4 +1,5 @@
-use Rattle.std.proofs.Common.{◌≡◌, ◌<◌, ◌+◌, ◌∙◌, ◌++◌, ◌∷◌, Global, List, ℕ, [], String, ap, append_assoc, arith, get_or, length, map, sym, take}
+use Rattle.std.proofs.Common.{◌≡◌, ◌<◌, ◌+◌, ◌∙◌, ◌++◌, ◌∷◌, Global, List, ℕ, [], String, ap, append_assoc, arith}
+use Rattle.std.proofs.Common.{get_or, length, map, sym, take}
 use Rattle.std.proofs.lemmas.List.{map-append, take_all, take_more}
 use Rattle.std.specs.String.{string_bytes}
 use Rattle.lrc_code.specs.declared.places.Place.{Place}
