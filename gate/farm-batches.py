@@ -2,7 +2,7 @@
 """Answers lists in batches of any size, from one request to all: the answers, what was left out, and what a pause is given; which files are
 read ahead, how often, and into what memory. Then it serves folders with a pause, and counts the failures of both devices.
 
-It runs what was built last: tests of farm_files_tests, which show what the program doesn't, since its batches have one size."""
+It runs what was built last: tests of farm_tests, which show what the program doesn't, since its batches have one size."""
 
 import collections
 import dataclasses
@@ -21,7 +21,7 @@ from served import (  # noqa: E402
     ABC, CLOSE, FRAGMENTS, HEADER, LIST, LISTED, LIST_OF_FOUR, TESTS, WHOLE, Checks, empty_racks, folders, zero_stripes)
 
 ANSWERED, SERVED, REPORTED = [[str(TESTS), name] for name in (
-    "batches::answered_in_batches", "batches::served_with_a_pause", "surface::reports_on_a_list")]
+    "files::batches::answered_in_batches", "files::batches::served_with_a_pause", "files::surface::reports_on_a_list")]
 SECONDS = 60
 ENDED = "test result: ok"
 

@@ -2,7 +2,7 @@
 """Works with shelves step by step, each step with what it must give: a folder's, one that reads ahead, and one in memory. Then it reads
 files by a device that gives few bytes at a call or fails, and refuses memory to a write that fails.
 
-It runs what was built last: tests of farm_files_tests, which do the steps that are given and show what comes of each."""
+It runs what was built last: tests of farm_tests, which do the steps that are given and show what comes of each."""
 
 import errno
 import os
@@ -19,7 +19,7 @@ import faults  # noqa: E402
 import refusals  # noqa: E402
 from served import TESTS, Checks  # noqa: E402
 
-FOLDER, AHEAD, MEMORY = [[str(TESTS), f"shelves::{name}"] for name in ("of_a_folder", "read_ahead_of_a_folder", "in_memory")]
+FOLDER, AHEAD, MEMORY = [[str(TESTS), f"files::shelves::{name}"] for name in ("of_a_folder", "read_ahead_of_a_folder", "in_memory")]
 SECONDS = 60
 
 # What a test ends its output with.

@@ -34,9 +34,9 @@ TESTS = [
     ("lrc_tests", "value_trees_give_the_same_bytes_at_any_forks", 1),
     ("lrc_tests", "two_forks_give_both_values", 2),
     ("lrc_tests", "the_most_forks_give_both_values", 4),
-    ("farm_core_tests", "two_workers_answer_two_racks", 4),
-    ("farm_core_tests", "two_workers_answer_six_feeds", 9),
-    ("farm_core_tests", "collector_takes_its_room", 0),
+    ("farm_tests", "two_workers_answer_two_racks", 4),
+    ("farm_tests", "two_workers_answer_six_feeds", 9),
+    ("farm_tests", "collector_takes_its_room", 0),
     ("farm_lists_tests", "three_threads_make_the_known_digest", 2),
     ("store_repair_tests", "each_name_is_as_it_was_or_rebuilt", 0),
 ]
@@ -505,7 +505,7 @@ def worker_walks(library):
     """A worker that is refused the memory of its plan's arena, and that of its answer, and nothing else, at each job: one that plans
     elsewhere than in its arena is refused each node of a plan, and one with an arena for all jobs is refused it once."""
     for name, jobs in [("a_worker_without_memory_says_so", 1), ("each_job_has_an_arena_of_its_own", 2)]:
-        test = Test(library, "farm_core_tests", name)
+        test = Test(library, "farm_tests", name)
         yield Walk(name, "allocation", False, test, {"AllocError", "starved"}, exact={"starved": 2 * jobs})
 
 

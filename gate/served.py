@@ -11,7 +11,7 @@ import tempfile
 
 ROOT = pathlib.Path(__file__).resolve().parent.parent
 PROGRAM = ROOT / "crates/rebuild/out/rebuild"
-TESTS = ROOT / "crates/farm_files_tests/out/farm_files_tests_tests"
+TESTS = ROOT / "crates/farm_tests/out/farm_tests_tests"
 SECONDS = 60
 
 HEADER = "order,stripe,target,length,survivors\n"

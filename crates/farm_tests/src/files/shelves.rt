@@ -1,7 +1,7 @@
 //! Shelves, by tests that do with one what standard input says, and show what it gives. gate/farm-shelves.py gives them steps.
 ghost use Rattle.std.specs.Prelude.{◌<◌, ◌^◌};
 
-use crate::given::{given_bytes, number, word};
+use crate::files::given::{given_bytes, number, word};
 use farm_files::{FileRead, FolderShelf, MemoryShelf, ReadAheadShelf, Shelf, ShelfFault};
 use std::alloc::AllocError;
 use std::fs;

@@ -1,7 +1,7 @@
 use Rattle.std.proofs.Common.{refl, sym, subst}
 use Rattle.farm_lanes.specs.LaneEnds.{IsUnusedPut, IsUnusedTake}
 use Rattle.farm_lanes.proofs.Opens.{popped_put, popped_take}
-use Rattle.farm_core_tests.proofs.farm.jobs.two_to_two.Goals as goal
+use Rattle.farm_tests.proofs.farm.jobs.two_to_two.Goals as goal
 
 pub returns : goal.returns
 returns g c =

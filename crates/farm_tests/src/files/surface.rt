@@ -1,5 +1,5 @@
 //! Each name that callers of `farm_files` are promised, at this crate: one that moves, or a field more, doesn't compile.
-use crate::given::given_bytes;
+use crate::files::given::given_bytes;
 use farm_files::{
     Listed, Record, ReportRow, ReportShape, count_requests, merged_report_text, read_list,
     report_text,

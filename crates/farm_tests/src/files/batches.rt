@@ -1,8 +1,8 @@
 //! Serving with a pause, and answering in batches of any size, by tests that show what the program doesn't: what the pause is given, how
 //! often the devices failed, and the answers and requests. gate/farm-batches.py runs them beside the folders `in` and `out`, and gives them
 //! the number of workers and the size of a batch.
-use crate::calls::Calls;
-use crate::given::{given_bytes, number};
+use crate::files::calls::Calls;
+use crate::files::given::{given_bytes, number};
 use farm_core::Settings;
 use farm_files::{
     Answered, Batching, FeedAnswer, Folders, ListFault, ReadRequest, ServeFault, Served, Shelf,

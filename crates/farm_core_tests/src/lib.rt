@@ -1,6 +1,0 @@
-//! Tests of the public calls of `farm_core`. They are in a crate of their own, so that a check of that crate proves it once and not a
-//! second time with its tests.
-#![tactic(auto)]
-
-#[cfg(test)]
-mod farm;
