@@ -10,7 +10,8 @@
 
 The status is that of what was run. `rt ci` says when a crate is proved, but not when its proof began nor what it took. So its processes are
 looked at once a second: how many seconds of a processor each has had, for which crate and which part of its proof. Left out are processes
-of another form, and of each what it had after the last look. Those that prove tests get a lower priority then."""
+of another form, and of each what it had after the last look. Then those get a lower priority on which the longest chain doesn't wait: those
+of tests, and of crates that aren't below the program with most lines below it."""
 
 import collections
 import concurrent.futures
@@ -25,14 +26,17 @@ import sys
 import threading
 import time
 
+sys.dont_write_bytecode = True
+import build  # noqa: E402
+
 ROOT = pathlib.Path(__file__).resolve().parent.parent
 # What was timed, one thing on a line.
 TIMES = ROOT / "out" / "gate-times"
 # By how much the priority of the scripts beside them is lower than that of proofs, so that they take what these leave.
 NICER = "15"
-# By how much that of the proofs of tests is, for which no crate waits: `rt ci` takes them first where they have more lines than what is to
-# come after a crate.
-TESTS_NICER = 5
+# By how much that of the proofs of tests is, for which no crate waits, and that of crates that aren't on the longest chain: `rt ci` takes
+# first what has the most lines from there on, and gives all the same.
+TESTS_NICER, OTHERS_NICER = 7, 3
 # Seconds between two looks at the processes.
 BETWEEN = 1
 TICKS = os.sysconf("SC_CLK_TCK")
@@ -91,11 +95,17 @@ def work_of(words, folder):
     return name, "tests" if "--test" in words else "proof"
 
 
+def first_crates():
+    """The names of the program with most lines below it and of the crates below it."""
+    ways = [[it, *it.all_below()] for it in build.read_crates().values() if it.is_program]
+    return {it.name for it in max(ways, key=lambda way: sum(it.proof_seconds() for it in way))}
+
+
 class Seen:
     """What the processes below one have had of the processors."""
 
     def __init__(self, top):
-        self.top, self.start = top, time.monotonic()
+        self.top, self.start, self.first_crates = top, time.monotonic(), first_crates()
         # By processes, each with its start, since numbers come again: whose work it is, and its seconds until now.
         self.work, self.seconds = {}, {}
         # By works: when it was first and last seen.
@@ -133,8 +143,8 @@ class Seen:
             try:
                 words = pathlib.Path(f"/proc/{number}/cmdline").read_text(errors="replace").split("\0")
                 found = work_of(words, pathlib.Path(os.readlink(f"/proc/{number}/cwd")))
-                if found and found[1] == "tests":
-                    os.setpriority(os.PRIO_PROCESS, number, TESTS_NICER)
+                if found and (found[1] == "tests" or found[0] not in self.first_crates):
+                    os.setpriority(os.PRIO_PROCESS, number, TESTS_NICER if found[1] == "tests" else OTHERS_NICER)
             except OSError:
                 return None
             if found is None:
