@@ -165,12 +165,12 @@ try-ceph-releases: store
 	ceph/releases.sh
 
 # What the gate runs after the proofs, over the programs and tests that they leave in each crate's out/. No two of these share a file
-# that one of them writes, so several run at once: first those that take long with one processor, last those that use all.
-AFTER := tools/try.sh ceph/test.sh $(addprefix gate/,packages.sh refusals.py store-damage.py store-strangers.py no-compile.py \
-  reference-lines.sh line-mode.py arguments.py lists.py farm-folders.py farm-calls.py farm-batches.py farm-shelves.py ends.sh \
-  examples.py manual.sh completions.sh install.sh version.sh numbers.py tables.py growth.py memory.py repair-store.py encode-store.py \
-  store-options.py store-disks.py store-sharing.py store-watching.py store-files.py store-life.py store-faults.py file-faults.py) \
-  tools/demo.sh
+# that one of them writes, so several run at once, first those that take long.
+AFTER := ceph/test.sh $(addprefix gate/,store-faults.py file-faults.py refusals.py store-strangers.py store-files.py) tools/try.sh \
+  $(addprefix gate/,store-damage.py packages.sh store-watching.py store-sharing.py repair-store.py encode-store.py store-life.py \
+  store-options.py store-disks.py no-compile.py reference-lines.sh line-mode.py arguments.py lists.py farm-folders.py farm-calls.py \
+  farm-batches.py farm-shelves.py ends.sh examples.py manual.sh completions.sh install.sh version.sh numbers.py tables.py growth.py \
+  memory.py) tools/demo.sh
 
 # What it runs before them, of sources and pages; none of these writes a file of the repository.
 BEFORE := $(addprefix gate/,formatted.sh wrong-bodies.sh architecture.py sweep.py documented.py pages.py sentences.py messages.py \
