@@ -22,6 +22,4 @@ mod records;
 #[cfg(test)]
 mod refused;
 #[cfg(test)]
-mod results;
-#[cfg(test)]
 mod words;

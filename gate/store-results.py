@@ -1,0 +1,314 @@
+#!/usr/bin/env python3
+"""Tries what rebuild-store says of stripes: rows, lines, last lines and statuses, of what is damaged, lost, unchecked, kept, made again or
+of no stripe, and what a dry run says of each kind of thing that is under a lost fragment's name.
+
+    store-results.py [PROGRAM [TEST]]
+
+Stores are made by an independent encoder, and each expected text is that of the manual page."""
+
+import csv
+import hashlib
+import json
+import os
+import pathlib
+import random
+import subprocess
+import sys
+import tempfile
+
+# No compiled copy of the modules is left beside them.
+sys.dont_write_bytecode = True
+ROOT = pathlib.Path(__file__).resolve().parent.parent
+sys.path.append(str(ROOT / "tools"))
+from store import stripe  # noqa: E402
+
+PROGRAM = ROOT / "crates/rebuild_store/out/rebuild_store"
+SECONDS = 60
+HEADER = ["stripe", "place", "outcome", "detail"]
+# Without these and another one as few fragments survive as it takes.
+SPARE = ("y0", "p0", "p1")
+passed = 0
+
+DAMAGED = "is damaged: only without it the others belong together"
+GUESS = "is taken for the damaged one, which is a guess: only without it the others belong together"
+NOTHING_LEFT = "no fragment can be read"
+DIFFERS = "differs from the checksums"
+SHORT = "has another length than the other fragments of the stripe"
+NO_FILE = "is no regular file"
+NOT_REPLACED = "isn't replaced: no check covers what would be put in its place"
+ALONE = "is named as a fragment, and of no stripe"
+FEW = "as many fragments survive as it takes, so damage among them can't show"
+
+
+def check(holds, what):
+    """Counts what holds, and ends with what doesn't."""
+    global passed
+    if not holds:
+        sys.exit(f"store-results: {what}")
+    passed += 1
+
+
+def compare(what, came, wanted):
+    check(came == wanted, f"{what}:\n  wanted: {wanted}\n  came:   {came}")
+
+
+def run(*arguments, status):
+    """Runs the program, holds its status to this one, and gives what it says on standard output and on standard error."""
+    done = subprocess.run([PROGRAM, *map(str, arguments)], stdin=subprocess.DEVNULL, capture_output=True, timeout=SECONDS)
+    out, err = done.stdout.decode(), done.stderr.decode()
+    compare(f"{' '.join(map(str, arguments))}: {out}{err}: the status", done.returncode, status)
+    return out, err
+
+
+def lay(folder, choose, name, length, lost=()):
+    """Makes a store of a stripe that has lost these places."""
+    folder.mkdir()
+    for place, data in stripe("6-2-2", length, choose).items():
+        if place not in lost:
+            (folder / f"{name}.{place}").write_bytes(data)
+    return folder
+
+
+def change(path):
+    """Another byte at a file's beginning."""
+    data = path.read_bytes()
+    path.write_bytes(bytes([data[0] ^ 1]) + data[1:])
+
+
+def sums_of(store, *names):
+    """Lines of digests of these files, or of all."""
+    names = names or sorted(path.name for path in store.iterdir())
+    return "".join(f"{hashlib.sha256((store / name).read_bytes()).hexdigest()}  {name}\n" for name in names)
+
+
+def rows_of(text):
+    """The rows of a report."""
+    rows = [tuple(row) for row in csv.reader(text.splitlines())]
+    compare("a report's header", list(rows[0]), HEADER)
+    return rows[1:]
+
+
+def objects_of(text):
+    """The rows of standard output, whose keys have the report's order."""
+    objects = [json.loads(line) for line in text.splitlines()]
+    check(all(list(row) == HEADER for row in objects), text)
+    return [tuple(row.values()) for row in objects]
+
+
+# A stripe `a,b` of 1,536 bytes lost p1 and the first copy of its description, its x0 may be damaged, of two others nothing is left, and a
+# file is of no stripe: the rows, the lines and the last line of a repair into another folder that takes x0 for the damaged one.
+ROWS = '''\
+stripe,place,outcome,detail
+"a,b",x0,rebuilt,unchecked
+"a,b",p1,rebuilt,unchecked
+"a,b",x0,was,"is taken for the damaged one, which is a guess: only without it the others belong together"
+"a,b",file,rebuilt,"a,b.file"
+gone,,left,no fragment can be read
+none,,left,no fragment can be read
+z,y2,alone,"is named as a fragment, and of no stripe"
+'''
+FIRST_OBJECT = '{"stripe":"a,b","place":"x0","outcome":"rebuilt","detail":"unchecked"}\n'
+LINES = f"""\
+rebuild-store: z.y2: {ALONE}
+a,b.x0: {GUESS}
+a,b.x0: rebuilt unchecked: which fragment is damaged was a guess
+a,b.p1: rebuilt unchecked: which fragment is damaged was a guess
+gone: {NOTHING_LEFT}
+none: {NOTHING_LEFT}
+"""
+REPAIRED = "repaired 2 fragments, 3 KiB (2 unchecked: a,b.x0 a,b.p1); damaged: 1: a,b.x0; not possible: 2; 1 description made\n"
+
+
+def test_what_became_of_a_stripe(place, choose):
+    """What was rebuilt, what no check covers, what was damaged, what is left, made again and alone has its row, its line and its count."""
+    store, names, report = (place / name for name in ("store", "names", "report"))
+    source = place / "a,b"
+    source.write_bytes(choose.randbytes(6 * 1_536))
+    run("encode", store, source, status=0)
+    for name in ("SHA256SUMS", "a,b.file", "a,b.p1"):
+        (store / name).unlink()
+    change(store / "a,b.x0")
+    (store / "z.y2").write_bytes(b"mine")
+    names.write_text("none\ngone\n")
+    for name in ("one", "two", "three"):
+        (place / name).mkdir()
+    words = ["repair", store, "--assume-one-damaged", "--stripes", names]
+    compare("a repair", run(*words, "--to", place / "one", "--report", report, status=1), (REPAIRED, LINES))
+    compare("the report", report.read_text(), ROWS)
+    out, err = run(*words, "--to", place / "two", "--json", status=1)
+    check(FIRST_OBJECT in out, out)
+    compare("the objects", sorted(objects_of(out)), sorted(rows_of(ROWS)))
+    compare("a repair with objects", err, LINES + REPAIRED)
+    # A report that can't be written is a fault of a device, whatever is left.
+    out, err = run(*words, "--to", place / "three", "--report", "/dev/full", status=3)
+    compare("a repair without its report", (out, err.startswith(LINES)), (REPAIRED, True))
+    out, err = run(*words, "--dry-run", status=1)
+    check("none: no fragment can be read\n" in err and f"\nz.y2: {ALONE}\n" in f"\n{err}", err)
+
+
+def test_damage_that_is_known(place, choose):
+    """The one damaged fragment of a stripe is said to be that, by a scrub and by a repair, which left it or was told to replace it."""
+    store, report = lay(place / "store", choose, "a,b", 1_536), place / "report"
+    change(store / "a,b.x0")
+    found = f"a,b.x0: {DAMAGED}\n"
+    last = "scrubbed 1 stripe: 1 damaged, 0 lost or contradictory, 0 stripes without any check\n"
+    compare("a scrub", run("scrub", store, "--report", report, status=1), (found + last, ""))
+    compare("the report", rows_of(report.read_text()), [("a,b", "x0", "left", DAMAGED)])
+    last = "repaired 1 fragment, 1.5 KiB (0 unchecked); damaged: 1: a,b.x0; not possible: 0\n"
+    compare("a repair", run("repair", store, "--replace-damaged", "--report", report, status=0), (last, found))
+    compare("its report", rows_of(report.read_text()), [("a,b", "x0", "rebuilt", ""), ("a,b", "x0", "was", DAMAGED)])
+
+
+def test_as_few_as_it_takes(place, choose):
+    """Of a stripe of which as few fragments survive as it takes what is rebuilt is unchecked, and no check covers it in a scrub."""
+    store, report = lay(place / "store", choose, "a,b", 1_536, ("x0", "x1", "y0", "p1")), place / "report"
+    for name in ("x1", "y0"):
+        (store / f"a,b.{name}").mkdir()
+    last = "repaired 2 fragments, 3 KiB (2 unchecked: a,b.x0 a,b.p1); damaged: 0; not possible: 2\n"
+    out, err = run("repair", store, "--report", report, status=1)
+    lines = [f"a,b.{name}: {NO_FILE}" for name in ("x1", "y0")] + [f"a,b.{name}: rebuilt unchecked: {FEW}" for name in ("x0", "p1")]
+    compare("a repair", (out, sorted(err.splitlines())), (last, sorted(lines)))
+    rows = [("a,b", name, "rebuilt", "unchecked") for name in ("x0", "p1")] + [("a,b", name, "left", NO_FILE) for name in ("x1", "y0")]
+    compare("the report", sorted(rows_of(report.read_text())), sorted(rows))
+    scrubbed = lay(place / "scrubbed", choose, "a,b", 1_536, SPARE)
+    (scrubbed / "SHA256SUMS").write_text(f"{'0' * 64}  a,b.x0\n")
+    out, _ = run("scrub", scrubbed, status=1)
+    last = "scrubbed 1 stripe: 1 damaged, 3 lost or contradictory, 1 stripe without any check\n"
+    lines = [f"a,b.x0: {DIFFERS}", *(f"a,b.{name}: is lost" for name in SPARE), last.strip()]
+    compare("a scrub", sorted(out.splitlines()), sorted(lines))
+
+
+def test_descriptions(place, choose):
+    """A copy of a description that is lost is said by its name, and one that is made again is counted."""
+    store, source, report = place / "store", place / "a,b", place / "report"
+    source.write_bytes(b"some text")
+    run("encode", store, source, status=0)
+    (store / "SHA256SUMS").unlink()
+    (store / "a,b.file.copy").unlink()
+    out, _ = run("scrub", store, "--report", report, status=1)
+    last = "scrubbed 1 stripe: 0 damaged, 1 lost or contradictory, 0 stripes without any check\n"
+    compare("a scrub", out, "a,b.file.copy: is lost\n" + last)
+    compare("the report", report.read_text(), f'{",".join(HEADER)}\n"a,b",file,left,"a,b.file.copy: is lost"\n')
+    out, _ = run("repair", store, "--dry-run", status=1)
+    check(out.endswith("; 1 description can be made\n"), out)
+    out, _ = run("repair", store, "--report", report, status=0)
+    compare("a repair", out, "repaired 0 fragments, 0 bytes (0 unchecked); damaged: 0; not possible: 0; 1 description made\n")
+    compare("its report", report.read_text(), f'{",".join(HEADER)}\n"a,b",file,rebuilt,"a,b.file.copy"\n')
+
+
+# What is under the name of the lost x0, whether what is rebuilt of it is checked, whether damaged fragments are replaced, whether fragments
+# go elsewhere, and whether x0 would be rebuilt; or else what is said of it, and by the repair itself if that says something else.
+PLANS = [
+    ("nothing", False, False, False, ()),
+    ("a link to nothing", False, False, False, ()),
+    ("a file", True, False, False, (SHORT, SHORT)),
+    ("a file", True, True, False, ()),
+    ("a file", False, True, False, (SHORT, NOT_REPLACED)),
+    ("a file", False, False, True, ()),
+    ("a folder", True, True, False, (NO_FILE, NO_FILE)),
+    ("a folder", False, False, True, ()),
+    ("a FIFO", True, True, False, (NO_FILE, NO_FILE)),
+    ("a FIFO", False, False, True, ()),
+]
+
+
+def put_under(path, what):
+    """Puts something of this kind under a name."""
+    if what == "a link to nothing":
+        path.symlink_to("nowhere")
+    elif what == "a file":
+        path.write_bytes(b"abc")
+    elif what == "a folder":
+        path.mkdir()
+    elif what == "a FIFO":
+        os.mkfifo(path)
+
+
+def rows_of_x0(out):
+    return [row[2:] for row in objects_of(out) if row[1] == "x0"]
+
+
+def test_plans(place, choose):
+    """A dry run says what the repair then does of what is under a lost fragment's name."""
+    for number, (under, is_checked, replaces, is_elsewhere, left) in enumerate(PLANS):
+        lost = ("x0", *(() if is_checked else SPARE))
+        store, to = lay(place / f"store-{number}", choose, "s", 2_048, lost), place / f"to-{number}"
+        # A digest says which length is right where so few survive.
+        (store / "SHA256SUMS").write_text(sums_of(store, "s.x1"))
+        put_under(store / "s.x0", under)
+        to.mkdir()
+        words = ["repair", store, "--json", "--reads", "all", *(["--replace-damaged"] if replaces else []),
+                 *(["--to", to] if is_elsewhere else []), *(["--follow-links"] if "link" in under else [])]
+        before = sorted(path.name for path in store.iterdir())
+        out, err = run(*words, "--dry-run", status=1)
+        detail = "" if is_checked else "unchecked"
+        compare(f"a plan with {under}: {err}", rows_of_x0(out), [("left", left[0])] if left else [("would be rebuilt", detail)])
+        count = (0 if left else 1) + (0 if is_checked else len(SPARE))
+        check(f"; {count} can be rebuilt ({0 if is_checked else count} unchecked)" in err, err)
+        compare("what a dry run leaves", (sorted(path.name for path in store.iterdir()), list(to.iterdir())), (before, []))
+        out, _ = run(*words, status=1 if left else 0)
+        compare(f"a repair with {under}", rows_of_x0(out), [("left", left[1])] if left else [("rebuilt", detail)])
+        path = (to if is_elsewhere else store) / "s.x0"
+        check(bool(left) != (path.is_file() and path.stat().st_size == 2_048), f"{under} is replaced, or nothing is rebuilt")
+
+
+def test_plan_of_one_fragment(place, choose):
+    """The last line of a dry run over a stripe that lost one, which is rebuilt from few; it has something to do, and the repair nothing
+    left."""
+    store = lay(place / "store", choose, "s", 2_048, ("x0",))
+    words = ["repair", store, "--reads", "few"]
+    planned = "1 stripe of 6-2-2, 2 KiB; 1 lost in 1; 1 can be rebuilt (1 unchecked), 0 can't; reads 6 KiB, writes 2 KiB\n"
+    compare("a dry run", run(*words, "--dry-run", status=1), (planned, ""))
+    repaired = "repaired 1 fragment, 2 KiB (1 unchecked: s.x0); damaged: 0; not possible: 0\n"
+    compare("a repair", run(*words, status=0), (repaired, ""))
+    last = "1 stripe of 6-2-2, 2 KiB; 0 lost in 0; 0 can be rebuilt (0 unchecked), 0 can't; reads 0 bytes, writes 0 bytes\n"
+    compare("a dry run after it", run(*words, "--dry-run", status=0), (last, ""))
+
+
+def test_what_is_said_first(place, choose):
+    """Of a fragment a dry run says what it says first, and nothing more; it says something of each, and of a stripe as a whole."""
+    store, names = lay(place / "store", choose, "s", 600), place / "names"
+    (store / "SHA256SUMS").write_text(sums_of(store))
+    change(store / "s.p0")
+    (store / "s.x1").write_bytes(b"abc")
+    names.write_text("none\ngone\n")
+    _, err = run("repair", store, "--dry-run", "--quiet", "--reads", "all", "--stripes", names, status=1)
+    lines = [f"s.p0: {DIFFERS}", f"s.x1: {SHORT}", f"none: {NOTHING_LEFT}", f"gone: {NOTHING_LEFT}"]
+    compare("a dry run", sorted(err.splitlines()), sorted(lines))
+
+
+def test_what_replacing_would_mend(place, choose):
+    """A damaged fragment is left for --replace-damaged alone, unless something else is said of it or no check covers it."""
+    store = lay(place / "store", choose, "s", 600)
+    sums = sums_of(store)
+    (store / "SHA256SUMS").write_text(sums)
+    change(store / "s.p0")
+    last = "repaired 0 fragments, 0 bytes (0 unchecked); damaged: 1: s.p0; left without --replace-damaged: 1; not possible: 0\n"
+    compare("with a check", run("repair", store, "--reads", "all", status=1), (last, f"s.p0: {DIFFERS}\n"))
+    (store / "s.p0.damaged").write_bytes(b"kept")
+    last = "repaired 0 fragments, 0 bytes (0 unchecked); damaged: 1: s.p0; not possible: 2\n"
+    out, err = run("repair", store, "--replace-damaged", status=1)
+    kept = "isn't replaced: a fragment that was replaced before is kept beside it"
+    compare("with one that is kept", (out, sorted(err.splitlines())), (last, sorted([f"s.p0: {DIFFERS}", f"s.p0: {kept}"])))
+    (store / "s.p0.damaged").unlink()
+    for name in ("x0", "y0", "p1"):
+        (store / f"s.{name}").unlink()
+    last = "repaired 3 fragments, 1.7 KiB (0 unchecked); damaged: 1: s.p0; not possible: 1\n"
+    compare("without a check", run("repair", store, "--reads", "all", status=1), (last, f"s.p0: {DIFFERS}\n"))
+
+
+def main(program=None, only=""):
+    global PROGRAM
+    PROGRAM = pathlib.Path(program or PROGRAM).resolve()
+    choose = random.Random(2026)
+    tests = [value for name, value in globals().items() if name.startswith("test_") and only in name]
+    with tempfile.TemporaryDirectory() as scratch:
+        for test in tests:
+            place = pathlib.Path(scratch) / test.__name__
+            place.mkdir()
+            test(place, choose)
+    print(f"store-results: {passed} passed, 0 failed")
+
+
+if __name__ == "__main__":
+    main(*sys.argv[1:3])
