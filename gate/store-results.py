@@ -1,10 +1,12 @@
 #!/usr/bin/env python3
 """Tries what rebuild-store says of stripes: rows, lines, last lines and statuses, of what is damaged, lost, unchecked, kept, made again or
-of no stripe, and what a dry run says of each kind of thing that is under a lost fragment's name.
+of no stripe, and what a dry run says of each kind of thing that is under a lost fragment's name; names with control characters, the
+system's words, and requests for what is lost.
 
     store-results.py [PROGRAM [TEST]]
 
-Stores are made by an independent encoder, and each expected text is that of the manual page."""
+Stores are made by an independent encoder, and each expected text is that of the manual page. A test of store_tests shows what is said of
+errors that no system has."""
 
 import csv
 import hashlib
@@ -20,9 +22,11 @@ import tempfile
 sys.dont_write_bytecode = True
 ROOT = pathlib.Path(__file__).resolve().parent.parent
 sys.path.append(str(ROOT / "tools"))
+from faults import Calls  # noqa: E402
 from store import stripe  # noqa: E402
 
 PROGRAM = ROOT / "crates/rebuild_store/out/rebuild_store"
+WORDS_OF_ERRORS = [ROOT / "crates/store_tests/out/store_tests_tests", "errors::words_of_errors"]
 SECONDS = 60
 HEADER = ["stripe", "place", "outcome", "detail"]
 # Without these and another one as few fragments survive as it takes.
@@ -60,10 +64,10 @@ def run(*arguments, status):
     return out, err
 
 
-def lay(folder, choose, name, length, lost=()):
+def lay(folder, choose, name, length, lost=(), code="6-2-2"):
     """Makes a store of a stripe that has lost these places."""
     folder.mkdir()
-    for place, data in stripe("6-2-2", length, choose).items():
+    for place, data in stripe(code, length, choose).items():
         if place not in lost:
             (folder / f"{name}.{place}").write_bytes(data)
     return folder
@@ -295,6 +299,121 @@ def test_what_replacing_would_mend(place, choose):
         (store / f"s.{name}").unlink()
     last = "repaired 3 fragments, 1.7 KiB (0 unchecked); damaged: 1: s.p0; not possible: 1\n"
     compare("without a check", run("repair", store, "--reads", "all", status=1), (last, f"s.p0: {DIFFERS}\n"))
+
+
+# Names, and how `ls -b` of the GNU coreutils writes their control characters.
+ESCAPES = {
+    "note.x1": "note.x1",
+    "a\nb\rc\td": r"a\nb\rc\td",
+    "\a\b\v\f": r"\a\b\v\f",
+    "\x1b[2J\x7f": r"\033[2J\177",
+    "\0": r"\000",
+    "\x85\x9b": r"\302\205\302\233",
+    "größe €": "größe €",
+}
+
+
+def test_control_characters(place, choose):
+    """Control characters of a stripe's name are escaped: of one that files have, and of one that is named and has none."""
+    for number, (name, shown) in enumerate(ESCAPES.items()):
+        store, names = lay(place / f"store-{number}", choose, "other", 10), place / "names"
+        if "\n" not in name:
+            names.write_text(f"{name}\n")
+            line = f"{shown}: {NOTHING_LEFT}\n"
+            out, _ = run("scrub", store, "--stripes", names, status=1)
+            compare(f"scrub of {name!r}", out.partition("scrubbed")[0], line)
+            compare(f"repair of {name!r}", run("repair", "-q", store, "--stripes", names, status=1), ("", line))
+            _, err = run("lost", store, "--stripes", names, status=1)
+            check(err.startswith(f"rebuild-store: {line}"), err)
+        if "\0" not in name:
+            for of in ("x0", "x1", "y1"):
+                (store / f"{name}.{of}").write_bytes(b"short")
+            lost = [f"{shown}.{of}: is lost" for of in ("x2", "y0", "y2", "px", "py", "p0", "p1")]
+            out, _ = run("scrub", store, status=1)
+            compare(f"scrub of the files of {name!r}", sorted(line for line in out.splitlines() if line.endswith("is lost")), sorted(lost))
+
+
+# Numbers of errors, and what strerror of the C library says of them.
+ERRORS = {2: "No such file or directory", 5: "Input/output error", 28: "No space left on device"}
+
+
+def last_calls(calls, command, *kinds):
+    """The number of the last call of these kinds at each file, by its name."""
+    last = {}
+    for number, kind in enumerate(calls.run(command).kinds, 1):
+        if kind in kinds:
+            last[pathlib.Path(calls.run(command, number, 5).paths[-1]).name] = number
+    return last
+
+
+def test_errors(place, choose):
+    """An error is said in the system's words without its number: of a copy of a description and of a fragment whose names have such a
+    number, and of the store's folder, which is a fault of a device."""
+    source, store, calls = place / "a (os error 2)", place / "b", Calls(place)
+    source.write_bytes(b"some text")
+    run("encode", store, source, status=0)
+    (store / "SHA256SUMS").unlink()
+    command = [PROGRAM, "scrub", "-j", "1", store]
+    opened, last = last_calls(calls, command, "open")[store.name], last_calls(calls, command, "read")
+    for error, words in ERRORS.items():
+        ran = calls.run(command, opened, error)
+        compare(f"{error} at the store", (ran.status, ran.out, ran.err), (3, "", f"rebuild-store: {store}: {words}\n"))
+        for ending in (".x0", ".file", ".file.copy"):
+            # A copy that isn't there when it is read is lost.
+            status, said = (1, "is lost") if error == 2 and ending != ".x0" else (3, f"can't be read: {words}")
+            ran = calls.run(command, last[source.name + ending], error)
+            line = f"{source.name}{ending}: {said}\n"
+            compare(f"{error} at {ending}: {ran.text()}", (ran.status, line in ran.out), (status, True))
+    (store / f"{source.name}.file").unlink()
+    command = [PROGRAM, "repair", "-j", "1", store]
+    # The call that fails at last is to give the copy its name.
+    number = max(number for number, kind in enumerate(calls.run(command).kinds, 1) if kind == "link")
+    for error, words in ERRORS.items():
+        (store / f"{source.name}.file").unlink(missing_ok=True)
+        ran = calls.run(command, number, error)
+        line = f"{source.name}.file: can't be put in its place: {words}\n"
+        compare(f"{error} at a copy's name", (ran.status, ran.err), (3, line))
+
+
+# Words of errors that aren't the system's, which have no number that is left out.
+OTHER_ERRORS = ["is a link", "(os error 2) odd", "odd (os error x)", ")"]
+
+
+def test_other_errors(_place, _choose):
+    given = "".join(f"{words}\n" for words in OTHER_ERRORS)
+    ran = subprocess.run(WORDS_OF_ERRORS, input=given.encode(), capture_output=True, env={}, timeout=SECONDS)
+    compare("words of errors", (ran.stdout.decode(), ran.returncode), (f"{given}\ntest result: ok\n", 0))
+
+
+# A stripe's name, the length of its fragments and its code; and the request in a list for x2 or y0, or why no list can ask for them.
+OTHER_LENGTH, OTHER_NAME = "it has {} bytes, and lists take 1 to 65536", "lists take other names of stripes"
+REQUESTS = [
+    ("note", 4, "6-2-2", "rebuild,note,{},4,x0 x1 y1 y2 px py p0 p1\n"),
+    ("a-0", 65_536, "12-2-2", "rebuild,a-0,{},65536,x0 x1 x3 x4 x5 y1 y2 y3 y4 y5 px py p0 p1,12-2-2\n"),
+    ("note", 65_537, "6-2-2", OTHER_LENGTH.format(65_537)),
+    ("note", 0, "6-2-2", OTHER_LENGTH.format(0)),
+    ("Note", 4, "6-2-2", OTHER_NAME),
+    ("a123456789a123456789a123456789a12", 4, "6-2-2", OTHER_NAME),
+]
+# The first line of a list.
+LIST = {"6-2-2": "order,stripe,target,length,survivors\n", "12-2-2": "order,stripe,target,length,survivors,code\n"}
+OBJECT = (r'{"order":"rebuild","stripe":"a \"b","target":"%s","length":4,'
+          '"survivors":["x0","x1","y1","y2","px","py","p0","p1"],"code":"6-2-2"}\n')
+
+
+def test_requests(place, choose):
+    """Requests for what is lost have the form of lists, and a line says of which fragments there is none; as JSON there is one of each."""
+    lost = ("x2", "y0")
+    for number, (name, length, code, wanted) in enumerate(REQUESTS):
+        store = lay(place / f"store-{number}", choose, name, length, lost, code)
+        is_listed = wanted.endswith("\n")
+        lines = LIST[code] + "".join(wanted.format(target) for target in lost if is_listed)
+        said = "".join(f"rebuild-store: {name}.{target}: a list can't ask for it: {wanted}\n" for target in lost if not is_listed)
+        last = f"1 stripe; 2 fragments lost, {0 if is_listed else 2} of them not in the list\n"
+        compare(f"lost of {name}, {length} bytes", run("lost", store, "--code", code, status=1), (lines, said + last))
+    store = lay(place / "quoted", choose, 'a "b', 4, lost)
+    wanted = "".join(OBJECT % target for target in lost), "1 stripe; 2 fragments lost, 0 of them not in the list\n"
+    compare("lost as JSON", run("lost", "--json", store, status=1), wanted)
 
 
 def main(program=None, only=""):

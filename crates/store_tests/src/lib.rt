@@ -10,11 +10,11 @@ mod asserting;
 #[cfg(test)]
 mod copies;
 #[cfg(test)]
+mod errors;
+#[cfg(test)]
 mod files;
 #[cfg(test)]
 mod fragments;
-#[cfg(test)]
-mod lines;
 #[cfg(test)]
 mod others;
 #[cfg(test)]
