@@ -1,6 +1,6 @@
-//! Tests of names, records, reports and arguments of stores: tables that Python's own code gives, results that are made by hand, and lines
-//! of arguments. They are in a crate of their own, so that a check of the crates that they test proves these once and not a second time
-//! with their tests, and in one crate, since each costs the prover as much as ten small functions before its first.
+//! Tests of names, records and reports of stores: tables that Python's own code gives, and results that are made by hand. They are in a
+//! crate of their own, so that a check of the crates that they test proves these once and not a second time with their tests, and in one
+//! crate, since each costs the prover as much as ten small functions before its first.
 #![tactic(auto)]
 
 #[cfg(test)]
@@ -17,7 +17,3 @@ mod fragments;
 mod others;
 #[cfg(test)]
 mod records;
-#[cfg(test)]
-mod refused;
-#[cfg(test)]
-mod words;
