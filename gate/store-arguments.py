@@ -393,9 +393,9 @@ def test_encode(place, _choose):
     compare("what replaces it", run(place, "read --names {place}/{stripe} s b", 0), ("another text", ""))
     run(place, line.replace("--as b", ""), 0)
     compare("without --as", files_of(place / "s", "a", True), 10)
-    for code, count in (("--code 12-2-2", 16), ("--code=6-2-2", 10)):
-        run(place, f"encode t{count} a {code}", 0)
-        compare(code, files_of(place / f"t{count}", "a", False), count + 2)
+    for number, (code, count) in enumerate((("--code 12-2-2", 16), ("--code=12-2-2", 16), ("--code 6-2-2", 10))):
+        run(place, f"encode t{number} a {code}", 0)
+        compare(code, files_of(place / f"t{number}", "a", False), count + 2)
 
 
 def test_files(place, _choose):
