@@ -14,6 +14,7 @@ mod listed_folders;
 mod listing;
 mod store_stripes;
 mod stripe_names;
+mod votes;
 mod watching;
 
 pub use disks::Unlisted;
@@ -21,5 +22,6 @@ pub use expecting::expect_listed;
 pub use leaving::left_in;
 pub use listing::{Listing, list};
 pub use store_stripes::{Alone, StoreStripes};
-pub use stripe_names::{Others, StripeNames};
+pub use stripe_names::StripeNames;
+pub use votes::Others;
 pub use watching::{Foreign, Wanted, Watched};

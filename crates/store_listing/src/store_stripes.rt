@@ -1,12 +1,10 @@
 //! The stripes of a store: which names are those of one, and what is of none.
+use crate::votes::are_stripe;
 use lrc_code::{Code, Place};
 use std::alloc::{AllocError, Global};
 use std::collections::{BTreeMap, BTreeSet};
 use store_records::MOST_BYTES;
 use stores::{Found, StripeFiles};
-
-/// A stripe that nothing else names has so many fragments at least: a file alone may have such a name by chance.
-const LEAST_FRAGMENTS: usize = 2;
 
 /// A file that is named as a fragment, and is of no stripe: it has no other fragment beside it, or the code hasn't its place.
 #[derive(Drop)]
@@ -122,20 +120,4 @@ impl StoreStripes {
         }
         Ok(())
     }
-}
-
-/// Whether files make a stripe of a code, though nothing else names it.
-pub(crate) fn are_stripe(files: &StripeFiles, code: Code) -> bool {
-    count_of(files, code) >= LEAST_FRAGMENTS
-}
-
-/// At how many places of a code there is something.
-fn count_of(files: &StripeFiles, code: Code) -> usize {
-    let mut count = 0usize;
-    for place in code.places() {
-        if files.at(*place) != Found::Absent {
-            count = count.saturating_add(1);
-        }
-    }
-    count
 }

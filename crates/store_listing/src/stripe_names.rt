@@ -1,5 +1,6 @@
 //! Which stripes a store has, by the names of its files and by what else says that they should be there.
-use crate::store_stripes::{Alone, StoreStripes, are_stripe};
+use crate::store_stripes::{Alone, StoreStripes};
+use crate::votes::{Others, Votes, are_stripe, others_of, placed_code, said_by};
 use lrc_code::{Code, Place};
 use std::alloc::{AllocError, Global};
 use std::collections::{BTreeMap, BTreeSet};
@@ -37,31 +38,6 @@ impl Drop for StripeNames {
             by_descriptions: _,
             by_sums: _,
         } = self;
-    }
-}
-
-/// How many things say each code.
-#[derive(Clone, Copy, Default)]
-struct Votes {
-    narrow: u64,
-    wide: u64,
-}
-
-impl Votes {
-    /// Adds a vote for a code.
-    fn add(&mut self, code: Code) {
-        match code {
-            Code::Narrow => self.narrow = self.narrow.saturating_add(1),
-            Code::Wide => self.wide = self.wide.saturating_add(1),
-        }
-    }
-
-    /// How many votes a code has.
-    fn of(&self, code: Code) -> u64 {
-        match code {
-            Code::Narrow => self.narrow,
-            Code::Wide => self.wide,
-        }
     }
 }
 
@@ -194,21 +170,9 @@ impl StripeNames {
     /// The code that most descriptions say, and without them the places of the files: 12-2-2 where at least half of the stripes have a
     /// place of that code alone, or a fifth of the fragments that sums name.
     pub fn code(&self) -> Code {
-        let Votes { narrow, wide } = self.by_descriptions;
-        if narrow > 0 || wide > 0 {
-            return if wide > narrow {
-                Code::Wide
-            } else {
-                Code::Narrow
-            };
-        }
-        let Votes { narrow, wide } = self.by_places(Code::Narrow);
-        let are_wide = wide > 0 && wide >= narrow;
-        let Votes { narrow, wide } = self.by_sums;
-        if are_wide || wide > narrow / 4 {
-            Code::Wide
-        } else {
-            Code::Narrow
+        match self.by_descriptions.most() {
+            Some(code) => code,
+            None => placed_code(self.by_places(Code::Narrow), self.by_sums),
         }
     }
 
@@ -226,20 +190,7 @@ impl StripeNames {
     /// How many stripes are of the other code than this one, as their descriptions say, or their places: one has a place that the (6,2,2)
     /// code hasn't, or all places of that one and no other. Where all descriptions say the other code, all are.
     pub fn of_another_code(&self, code: Code) -> Others {
-        let other = match code {
-            Code::Narrow => Code::Wide,
-            Code::Wide => Code::Narrow,
-        };
-        let described = self.by_descriptions;
-        let placed = self.by_places(code);
-        let is_described = described.of(code) > 0;
-        if described.of(other) == 0 && placed.of(other) == 0 {
-            return Others::None;
-        }
-        if !is_described && (described.of(other) > 0 || placed.of(code) == 0) {
-            return Others::All;
-        }
-        Others::Some
+        others_of(code, self.by_descriptions, self.by_places(code))
     }
 
     /// The stripes of this code. `ending` is how names end of files that describe stripes, where a stripe's own name may end so too.
@@ -271,27 +222,4 @@ impl StripeNames {
         stripes.block(blocked);
         Ok(stripes)
     }
-}
-
-/// How many of some stripes are of another code.
-#[derive(Clone, Copy, PartialEq, Eq)]
-pub enum Others {
-    None,
-    Some,
-    All,
-}
-
-/// The code of a stripe by its places: 12-2-2 if it has one that the (6,2,2) code hasn't, 6-2-2 if it has all of that code, and else this.
-fn said_by(files: &StripeFiles, doubtful_is: Code) -> Code {
-    let is_there = |place: &Place| files.at(*place) != Found::Absent;
-    if Place::ALL
-        .iter()
-        .any(|place| !Code::Narrow.has(*place) && is_there(place))
-    {
-        return Code::Wide;
-    }
-    if Code::Narrow.places().iter().all(|place| is_there(place)) {
-        return Code::Narrow;
-    }
-    doubtful_is
 }

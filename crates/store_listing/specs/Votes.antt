@@ -1,0 +1,46 @@
+-- Of which code stripes are by what is at their places, and which code the votes of many say.
+use Rattle.std.specs.Prelude.{◌<◌, ◌≤◌, ◌≡◌, ◌/◌, ◌⊎◌, ℕ, Bool, List, false, true, count_by, slice_index_or}
+use Rattle.lrc_code.specs.declared.codes.Code.{Code as CodeName}
+use Rattle.lrc_code.specs.declared.codes.Code.TheVariants.{Narrow, Wide}
+use Rattle.lrc_code.specs.declared.places.Place.{Place}
+use Rattle.lrc_code.specs.Codes.{tables_of}
+use Rattle.lrc_code.specs.Places.{index_of}
+use Rattle.stores.specs.declared.stripes.Found.{Found as FoundName}
+use Rattle.stores.specs.declared.stripes.Found.TheVariants as found
+use Rattle.store_listing.specs.declared.votes.Votes.{Votes}
+
+-- whether something was found
+abbrev pub is_there : FoundName → Bool
+is_there found.Absent = false
+is_there (found.File length) = true
+is_there found.Dangling = true
+is_there found.Other = true
+is_there (found.Unknown code) = true
+
+-- at how many places of a code something was found; what was found is listed by the places' indexes
+abbrev pub there_count : CodeName → List FoundName → ℕ
+there_count code files = count_by (λ p. is_there (slice_index_or files (index_of p) found.Absent)) (tables_of code).places
+
+-- the code that is not this one
+abbrev pub other_code : CodeName → CodeName
+other_code Narrow = Wide
+other_code Wide = Narrow
+
+-- how many votes a code has
+abbrev pub votes_of : Votes → CodeName → ℕ
+votes_of votes Narrow = votes.narrow
+votes_of votes Wide = votes.wide
+
+-- The places of 6-2-2 are places of 12-2-2 too.
+-- files at a place that 6-2-2 hasn't
+abbrev pub HasWidePlace : List FoundName → Type 0
+HasWidePlace files = there_count Narrow files < there_count Wide files
+
+-- files at each of the ten places of 6-2-2
+abbrev pub HasNarrowPlaces : List FoundName → Type 0
+HasNarrowPlaces files = there_count Narrow files ≡ 10
+
+-- Without descriptions a store is one of 12-2-2 if at least half of its stripes have a place of that code alone, or a fifth of the
+-- fragments that sums name.
+abbrev pub SayWide : Votes → Votes → Type 0
+SayWide by_places by_sums = ((0 < by_places.wide) × (by_places.narrow ≤ by_places.wide)) ⊎ (by_sums.narrow / 4 < by_sums.wide)
