@@ -23,5 +23,5 @@ pub use leaving::left_in;
 pub use listing::{Listing, list};
 pub use store_stripes::{Alone, StoreStripes};
 pub use stripe_names::StripeNames;
-pub use votes::Others;
+pub use votes::{Others, other_than};
 pub use watching::{Foreign, Wanted, Watched};

@@ -69,8 +69,8 @@ impl Votes {
     }
 }
 
-/// The other code.
-fn other_than(code: Code) -> Code
+/// The code that isn't this one.
+pub fn other_than(code: Code) -> Code
     ensures { result ≡ other_code code }
 {
     match code {

@@ -24,6 +24,6 @@ pub use leftovers::remove_leftovers;
 pub use locks::Locks;
 pub use open_stores::{OpenStore, open_store};
 pub use opening::{Access, Opening, Unmounted};
-pub use refusing::{other_than, refuse_untrusted};
+pub use refusing::refuse_untrusted;
 pub use unlisted::say_links;
 pub use unmounted::refuse_unmounted;

@@ -5,7 +5,7 @@ use lrc_code::Code;
 use std::fs;
 use std::os::unix::fs::MetadataExt;
 use store_faults::StoreFault;
-use store_listing::{Listing, Others};
+use store_listing::{Listing, Others, other_than};
 
 /// Refuses to write where others may write, or where a run works that divides the store into other parts, if anything is to be written.
 pub(crate) fn refuse_writing(
@@ -37,14 +37,6 @@ pub(crate) fn refuse_other_code(
         folder: String::from_str(rt.alloc(), opening.folder)?,
         other: other_than(code).text(),
     })
-}
-
-/// The code that isn't this one.
-pub fn other_than(code: Code) -> Code {
-    match code {
-        Code::Narrow => Code::Wide,
-        Code::Wide => Code::Narrow,
-    }
 }
 
 /// Refuses a listed folder of which a file would be written over by a report or by counters.

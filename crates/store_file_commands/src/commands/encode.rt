@@ -8,10 +8,8 @@ use store_encoding::{SourceFile, Spool, encode_file, make_folder, stored_sums, w
 use store_faults::{FileFault, StoreFault, device};
 use store_files::Target;
 use store_folder::{SystemFolder, folder_of, sync_folder};
-use store_listing::{Listing, Others, Wanted, list};
-use store_opening::{
-    Locks, other_than, refuse_unmounted, refuse_untrusted, remove_leftovers, say_links,
-};
+use store_listing::{Listing, Others, Wanted, list, other_than};
+use store_opening::{Locks, refuse_unmounted, refuse_untrusted, remove_leftovers, say_links};
 use store_progress::{Operation, Progress, Task};
 use store_reports::encoded;
 
