@@ -137,13 +137,10 @@ pub(crate) fn said_by(files: &StripeFiles, doubtful_is: Code) -> Code
 fn count_of(files: &StripeFiles, code: Code) -> usize
     ensures { result ≡ there_count code files.now.found }
 {
-    let mut count = 0usize;
-    for place in code.places() {
-        if is_found(files, *place) {
-            count += 1;
-        }
-    }
-    count
+    code.places()
+        .iter()
+        .filter(|place| is_found(files, **place))
+        .count()
 }
 
 /// Whether there is something at a place.
