@@ -92,8 +92,8 @@ pub(crate) fn placed_code(by_places: Votes, by_sums: Votes) -> Code
     }
 }
 
-/// How many stripes are of the other code than this one, by what descriptions say and by the places: all, if descriptions say the other code
-/// alone, or the places do without descriptions.
+/// How many stripes are of the other code than this one, by what descriptions say and by the places: all, if descriptions say the other
+/// code alone, or the places do without descriptions.
 pub(crate) fn others_of(code: Code, described: Votes, placed: Votes) -> Others
     ensures none { (result ≡ others.None)
         ↔ ((votes_of described (other_code code) ≡ 0) × (votes_of placed (other_code code) ≡ 0)) }
