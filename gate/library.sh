@@ -51,7 +51,7 @@ exports+='lrc_rebuild_many_into lrc_scale_add lrc_update_into lrc_verify_at lrc_
 
 # ---- the header
 for standard in c99 c11; do
-  for test in test test-stores; do
+  for test in test test-stores test-sums; do
     quietly "the header by $standard" "$compiler" -std=$standard "${warnings[@]}" -Ilibrary -c -o "$scratch/test.o" library/$test.c
   done
 done
@@ -73,7 +73,7 @@ echo "library: $(cat "$scratch/said")"
 # tests LEVEL: the tests in C with the archive as it is built for a level of the processor.
 tests() {
   local test
-  for test in test-growth test-stores test; do
+  for test in test-growth test-stores test-sums test; do
     quietly "the tests for $1" "$compiler" -std=c11 -O2 "${warnings[@]}" -Ilibrary -o "$scratch/$test" library/$test.c "$archive"
     "$scratch/$test" > "$scratch/counts" || fail "$1: $(tail -n 1 "$scratch/counts")"
     echo "library: $1: $(tail -n 1 "$scratch/counts")"
@@ -88,13 +88,13 @@ read -r narrow narrow_rebuilt < <(rebuilt '(6,2,2)')
 read -r wide wide_rebuilt < <(rebuilt '(12,2,2)')
 counted="four lost ones $narrow_rebuilt of $narrow sets in the (6,2,2) code and $wide_rebuilt of $wide in the (12,2,2) code"
 tr -d , < docs/LIBRARY.md | grep -qF "${counted//,/}" || fail "docs/LIBRARY.md doesn't say: of $counted"
-for test in test test-stores; do
+for test in test test-stores test-sums; do
   quietly 'the sanitizers' "$compiler" -std=c11 -O1 -g -fsanitize=address,undefined -fno-sanitize-recover=all -Ilibrary -DSHORT \
     -o "$scratch/sanitized" library/$test.c "$archive"
   quietly 'the tests with sanitizers' "$scratch/sanitized"
 done
 if has valgrind 'the tests under valgrind'; then
-  for test in test test-stores; do
+  for test in test test-stores test-sums; do
     quietly 'the tests, built' "$compiler" -std=c11 -O1 -g -Ilibrary -DSHORT -o "$scratch/short" library/$test.c "$archive"
     quietly 'the tests under valgrind' valgrind -q --error-exitcode=9 "$scratch/short"
   done
@@ -194,7 +194,7 @@ fi
 target=aarch64-unknown-linux-gnu
 if has aarch64-linux-gnu-gcc 'the library for ARM' && has qemu-aarch64 'the library for ARM'; then
   quietly 'make library for ARM' make -s library TARGET=$target JOBS=1 BELOW=by-ci
-  for test in test-stores test; do
+  for test in test-stores test-sums test; do
     # The questions what to read take minutes under qemu.
     short=()
     [ $test = test ] || short=(-DSHORT)
