@@ -28,29 +28,47 @@ PROGRAM = ROOT / "crates/rebuild/out/rebuild"
 DEMO = ROOT / "demo"
 DEMO_ANSWERED = b"served 4 racks, 14 answers\n"
 
-# Tests that end for lack of memory where an allocation is refused, and else pass; and how many threads each starts at least.
-TESTS = [
-    ("lrc_tests", "worked_requests_are_answered", 0),
-    ("lrc_tests", "value_trees_give_the_same_bytes_at_any_forks", 1),
-    ("lrc_tests", "two_forks_give_both_values", 2),
-    ("lrc_tests", "the_most_forks_give_both_values", 4),
-    ("farm_tests", "two_workers_answer_two_racks", 4),
-    ("farm_tests", "two_workers_answer_six_feeds", 9),
-    ("farm_tests", "collector_takes_its_room", 0),
-    ("farm_lists_tests", "three_threads_make_the_known_digest", 2),
-    ("store_repair_tests", "each_name_is_as_it_was_or_rebuilt", 0),
+# Requests for tests of lrc_tests: a code, the target, the length, and survivors. By the first x0 is the sum of three, and p1 of the last
+# that of twelve, a sum within a sum eleven times. The others are rebuilt by products, are contradictions, or aren't determined.
+OF_THREE = "6-2-2 x0 1 x1=02 x2=03 px=00"
+OF_TWELVE = "12-2-2 p1 1 x0=01 x1=00 x2=00 x3=00 x4=00 x5=01 y0=02 y1=00 y2=00 y3=00 y4=00 y5=00"
+REQUESTS = [
+    OF_THREE,
+    "6-2-2 y0 1 x0=01 x1=02 x2=03 y1=05 y2=06 px=00 p0=04 p1=6E",
+    "6-2-2 x0 1 x1=02 x2=03 y0=04 y1=05 y2=06 px=01 py=07 p0=04 p1=6E",
+    "6-2-2 y0 1 x0=01 x1=02 x2=03 px=00 p0=04 p1=6E",
+    "6-2-2 x0 3 x2=000000 y0=000000 y1=000000 y2=000000 p0=999591 p1=5E6E7E",
+    "12-2-2 x5 1 x1=00 x2=00 x3=00 x4=00 y0=02 y1=00 y2=00 y3=00 y4=00 y5=00 py=02 p0=72 p1=A6",
+    OF_TWELVE,
 ]
 
-# Those of which the other threads do the work where one is refused, so that they pass then.
-PASSING = {
-    "value_trees_give_the_same_bytes_at_any_forks",
-    "two_forks_give_both_values",
-    "the_most_forks_give_both_values",
-    "three_threads_make_the_known_digest",
-}
 
-# Those that start just as many threads, and no more.
-EXACT = {"two_forks_give_both_values", "the_most_forks_give_both_values", "three_threads_make_the_known_digest"}
+@dataclasses.dataclass(frozen=True)
+class Tried:
+    """A test that ends for lack of memory where an allocation is refused, and else passes: with these lines as its input, and how many
+    threads it starts at least. It may start no more than these, and the other threads may do the work where one is refused, so that it
+    passes then."""
+
+    crate: str
+    name: str
+    threads: int = 0
+    lines: tuple = ()
+    is_exact: bool = False
+    passes: bool = False
+
+
+# Values are evaluated with so many forks; above 4 they count as 4.
+TESTS = [
+    Tried("lrc_tests", "shown_of_lines", 0, tuple(f"answers 0 {line}" for line in REQUESTS * 2)),
+    Tried("lrc_tests", "shown_of_lines", 1, tuple(f"value {forks} {line}" for line in REQUESTS for forks in (0, 2, 255)), passes=True),
+    Tried("lrc_tests", "shown_of_lines", 2, (f"value 2 {OF_THREE}",), is_exact=True, passes=True),
+    Tried("lrc_tests", "shown_of_lines", 4, (f"value 255 {OF_TWELVE}",), is_exact=True, passes=True),
+    Tried("farm_tests", "two_workers_answer_two_racks", 4),
+    Tried("farm_tests", "two_workers_answer_six_feeds", 9),
+    Tried("farm_tests", "collector_takes_its_room"),
+    Tried("farm_lists_tests", "three_threads_make_the_known_digest", 2, is_exact=True, passes=True),
+    Tried("store_repair_tests", "each_name_is_as_it_was_or_rebuilt"),
+]
 
 # Limits of address space, in KiB: from where the program is hardly loaded to where all of its threads have room.
 ROOMS = [6_000, 8_000, 10_000, 12_000, 16_000, 20_000, 30_000, 40_000, 60_000]
@@ -334,9 +352,9 @@ class Farm:
 
 
 class Test:
-    """A test: it passes, or ends for lack of memory."""
+    """A test: it passes, and shows what it shows where nothing is refused, or it ends for lack of memory."""
 
-    def __init__(self, library, crate, name):
+    def __init__(self, library, crate, name, lines=()):
         self.library = library
         program = ROOT / f"crates/{crate}/out/{crate}_tests"
         listed = finished([program, "--list"], b"", {}).stdout.decode().split()
@@ -344,14 +362,22 @@ class Test:
         if len(names) != 1:
             raise Fault(f"{crate} has no test {name}")
         self.words = [program, names[0]]
+        self.given = "".join(f"{line}\n" for line in lines).encode()
+        self.whole = self.run()
+
+    def run(self, refusal=Refusal()):
+        return self.library.run(self.words, self.given, refusal)
 
     def __call__(self, refusal):
-        ran = self.library.run(self.words, refusal=refusal)
+        ran = self.run(refusal)
         if ran.status == 0:
+            if ran.out != self.whole.out:
+                raise Fault(f"it shows something else: {ran.text()}")
             return ran, "answered"
         # A test returns its error, or aborts where it expects what it needs.
         if ran.status > 0 or ran.status == -signal.SIGABRT:
-            if re.search(rb": (AllocError|AllocFailed \{ \.\. \}|OutOfMemory|NoThread)$", ran.err + ran.out, re.M):
+            refused = rb": (AllocError|AllocFailed \{ \.\. \}|OutOfMemory|Kind\(OutOfMemory\)|NoThread)$"
+            if re.search(refused, ran.err + ran.out, re.M):
                 return ran, "AllocError"
             if re.search(rb": starved$", ran.err + ran.out, re.M):
                 return ran, "starved"
@@ -490,15 +516,16 @@ def farm_walks(library):
 
 
 def test_walks(library):
-    """Tests of the libraries."""
-    for crate, name, threads in TESTS:
-        test = Test(library, crate, name)
+    """Tests of the libraries. What lrc_tests shows of requests where nothing is refused is tested by answers.py."""
+    for tried in TESTS:
+        name = tried.name
+        test = Test(library, tried.crate, name, tried.lines)
         yield Walk(name, "allocation", False, test, {"AllocError"})
-        started = library.run(test.words).threads
-        if started < threads or (name in EXACT and started != threads):
-            raise Fault(f"{name}: started {started} threads, and not {threads}")
+        started = test.whole.threads
+        if started < tried.threads or (tried.is_exact and started != tried.threads):
+            raise Fault(f"{name}: started {started} threads, and not {tried.threads}")
         if started:
-            yield Walk(name, "thread", False, test, set(), {"answered"} if name in PASSING else None)
+            yield Walk(name, "thread", False, test, set(), {"answered"} if tried.passes else None)
 
 
 def worker_walks(library):

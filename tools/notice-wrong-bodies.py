@@ -16,7 +16,8 @@ from edits import edited  # noqa: E402
 ROOT = pathlib.Path(__file__).resolve().parent.parent
 
 # The crates in which the tests of a crate's calls are, if not in the crate itself; those of lrc_c are in C, and those of line_mode,
-# command_line, farm_shelves, farm_files, and most of farm_lists and farm_reading, are scripts over what is built.
+# command_line, farm_shelves, farm_files, and most of lrc_field, lrc_code, lrc_plan, farm_lists and farm_reading, are scripts over what is
+# built.
 TESTS = {
     "lrc_field": ["lrc_tests"],
     "lrc_code": ["lrc_tests"],

@@ -1,4 +1,4 @@
-//! Where the tests of this crate end: in assertions, and where memory is refused. The proof of a function grows with each of its ends and
+//! Where tests of this crate end: in assertions, and where memory is refused. The proof of a function grows with each of its ends and
 //! with what it owns there, so the other functions have one end each.
 ghost use Rattle.std.specs.Prelude.{◌≡◌, Ok};
 
@@ -32,10 +32,5 @@ pub fn given<T, E: Into<AllocError>>(rt: &impl Abort, outcome: Result<T, E>) -> 
 
 /// Whether bytes are the same: the proof of a function that compares them itself takes longer.
 pub fn are_same_bytes(one: &[u8], other: &[u8]) -> bool {
-    one == other
-}
-
-/// And texts.
-pub fn are_same_texts(one: &str, other: &str) -> bool {
     one == other
 }

@@ -1,178 +1,116 @@
-//! Names, refusals, one stripe and one reduction, with values from outside.
+//! Codes, places, numbers and requests, by tests that show what calls give, which gate/codes.py compares with values from outside; and
+//! stripes, which no program makes by `encode`.
 ghost use Rattle.std.specs.Prelude.{◌≡◌, All, length, true};
 
-use super::assertions::{are_same_bytes, are_same_texts, assert_holds, assert_so, given};
+use super::assertions::{are_same_bytes, assert_holds, assert_so};
+use super::given::request_of;
 use lrc_code::text::parse_number;
 use lrc_code::{
-    AskedPlaces, Code, Fragment, Group, Place, PlaceSet, Request, RequestFault, encode,
-    encode_wide, first_refusal, reduce_in,
+    AskedPlaces, Code, ParityRows, Place, PlaceSet, Request, RequestFault, encode, encode_wide,
+    first_refusal, reduce_in,
 };
-use lrc_field::Gf;
 use std::alloc::{AllocError, Global};
 use std::array;
 use std::process::Abort;
 
-/// The names of the places in the order of their indexes, with their groups.
-static NAMES: &[(&str, Option<Group>)] = &[
-    ("x0", Some(Group::X)),
-    ("x1", Some(Group::X)),
-    ("x2", Some(Group::X)),
-    ("y0", Some(Group::Y)),
-    ("y1", Some(Group::Y)),
-    ("y2", Some(Group::Y)),
-    ("px", Some(Group::X)),
-    ("py", Some(Group::Y)),
-    ("p0", None),
-    ("p1", None),
-    ("x3", Some(Group::X)),
-    ("x4", Some(Group::X)),
-    ("x5", Some(Group::X)),
-    ("y3", Some(Group::Y)),
-    ("y4", Some(Group::Y)),
-    ("y5", Some(Group::Y)),
-];
-
-static NO_NAMES: &[&str] = &["", "x", "x6", "X0", "x0 ", "px0", "z9"];
-
-/// Whether the place with an index has this name and group.
-fn is_named(index: usize, row: &(&str, Option<Group>)) -> bool {
-    let Some(place) = Place::from_index(index) else {
-        return false;
-    };
-    (place.index() == index)
-        & are_same_texts(place.name(), row.0)
-        & (Place::parse(row.0) == Some(place))
-        & (place.group() == row.1)
+/// Shows the places of a code, and which of them are left out of a set of a place of both codes and one of the wide code alone.
+fn show_places(rt: &impl Print, code: Code) {
+    let others = code.others(PlaceSet::empty().with(Place::X0).with(Place::X3));
+    let count = others.len();
+    let _ = println!(rt;
+        "{:?} {} {count} {others:?}",
+        code.places(),
+        code.data_count()
+    );
 }
 
-/// No place has the index after the last, or bytes that are no text as its name.
-#[test]
-fn places_are_found_by_name_and_index(rt: HostRuntime) {
-    for index in 0..NAMES.len() {
-        assert_holds(&rt, is_named(index, &NAMES[index]), index);
-    }
-    for index in 0..NO_NAMES.len() {
-        assert_holds(&rt, Place::parse(NO_NAMES[index]).is_none(), index);
-    }
-    assert_so(&rt, Place::from_index(16).is_none());
-    assert_so(&rt, Place::named(b"\xffp").is_none());
+/// Shows which of three places it has, and its place of the name x3.
+fn show_own(rt: &impl Print, code: Code) {
+    let named = code.named(b"x3");
+    let _ = println!(rt;
+        "{} {} {} {named:?}",
+        code.has(Place::X3),
+        code.has(Place::Y5),
+        code.has(Place::P1)
+    );
 }
 
-/// Texts with their numbers, and those that are none.
-static NUMBERS: &[(&str, Option<u32>)] = &[
-    ("0", Some(0)),
-    ("7", Some(7)),
-    ("0000003", Some(3)),
-    ("65536", Some(65_536)),
-    ("9999999", Some(9_999_999)),
-    ("", None),
-    ("00000003", None),
-    ("+3", None),
-    ("-3", None),
-    ("3 ", None),
-    ("3a", None),
-    ("٣", None),
-];
-
-#[test]
-fn numbers_have_one_to_seven_digits(rt: HostRuntime) {
-    for index in 0..NUMBERS.len() {
-        let row = &NUMBERS[index];
-        assert_holds(&rt, parse_number(row.0.as_bytes()) == row.1, row.0);
-    }
+/// Shows the coefficients of its parities.
+fn show_parities(rt: &impl Print, code: Code) {
+    let ParityRows { px, py, p0, p1 } = code.parities();
+    let _ = println!(rt; "{px:?}\n{py:?}\n{p0:?}\n{p1:?}");
 }
 
-/// A request by its stripe, target, length, and the places of its survivors, each with so many bytes of `SEVENS`; and the number of its
-/// refusal.
-type Asked = (
-    &'static str,
-    Place,
-    u32,
-    &'static [(Place, usize)],
-    Option<u8>,
-);
-
-/// What is made of such a row.
-fn asked(rt: &(impl Abort + AllocGlobal), row: &Asked) -> Result<Request, RequestFault> {
-    let mut survivors = Vec::new(rt.alloc());
-    for (place, count) in row.3 {
-        let bytes = given(rt, SEVENS[..(*count).min(2)].to_vec(rt.alloc()));
-        given(
-            rt,
-            survivors.push(Fragment {
-                place: *place,
-                bytes,
-            }),
-        );
-    }
-    let stripe = given(rt, row.0.to_string(rt.alloc()));
-    Request::new(stripe, row.1, row.2, survivors)
-}
-
-static SEVENS: [u8; 2] = [7, 7];
-
-const NO_BYTES: &[u8] = &[];
-
-const X0: (Place, usize) = (Place::X0, 1);
-
-const X1: (Place, usize) = (Place::X1, 1);
-
-const X2: (Place, usize) = (Place::X2, 1);
-
-const Y2: (Place, usize) = (Place::Y2, 1);
-
-const Y5: (Place, usize) = (Place::Y5, 1);
-
-const PX: (Place, usize) = (Place::Px, 1);
-
-static REFUSALS: &[Asked] = &[
-    ("a", Place::X0, 1, &[], None),
-    ("a", Place::X0, 65_536, &[], None),
-    ("a", Place::X0, 1, &[X1, X2, PX], None),
-    ("z9-", Place::X0, 1, &[], None),
-    ("-", Place::X0, 1, &[], None),
-    ("abcdefghijklmnopqrstuvwxyz012345", Place::X0, 1, &[], None),
-    ("", Place::X0, 1, &[], Some(1)),
-    ("A", Place::X0, 1, &[], Some(1)),
-    ("a b", Place::X0, 1, &[], Some(1)),
-    ("a_b", Place::X0, 1, &[], Some(1)),
-    ("ä", Place::X0, 1, &[], Some(1)),
-    (
-        "abcdefghijklmnopqrstuvwxyz0123456",
-        Place::X0,
-        1,
-        &[],
-        Some(1),
-    ),
-    ("A", Place::X0, 0, &[X0, X0], Some(1)),
-    ("a", Place::X0, 0, &[X0, X0], Some(2)),
-    ("a", Place::X0, 65_537, &[], Some(2)),
-    ("a", Place::X3, 1, &[], Some(29)),
-    ("a", Place::X3, 0, &[], Some(2)),
-    ("a", Place::X0, 1, &[X1, Y5], Some(29)),
-    ("a", Place::X0, 2, &[Y5, Y5], Some(29)),
-    ("a", Place::X0, 1, &[X1, X1], Some(3)),
-    ("a", Place::X0, 2, &[X0, X0], Some(3)),
-    ("a", Place::X0, 1, &[X0], Some(4)),
-    ("a", Place::X0, 2, &[X0], Some(4)),
-    ("a", Place::X0, 2, &[X1], Some(5)),
-    // E5 comes of the second survivor too.
-    ("a", Place::X0, 1, &[X1, (Place::X2, 2)], Some(5)),
-];
-
-/// The number of the refusal of a row.
-fn refusal_of(rt: &(impl Abort + AllocGlobal), row: &Asked) -> Option<u8> {
-    match asked(rt, row) {
-        Ok(_) => None,
-        Err(fault) => Some(fault.code()),
+/// Shows the rows of a code where x5 is lost alone: the pivot of each, and its coefficient of x5.
+fn show_reduced(rt: &impl Print, code: Code) {
+    let reduced = reduce_in(code, PlaceSet::empty().with(Place::X5));
+    for row in 0..4usize {
+        let coefficient = reduced.coefficient(row, Place::X5);
+        let _ = println!(rt; "{:?} {coefficient:?}", reduced.pivot(row));
     }
 }
 
 #[test]
-fn refusals_come_in_their_order(rt: HostRuntime) {
-    for index in 0..REFUSALS.len() {
-        let row = &REFUSALS[index];
-        assert_holds(&rt, refusal_of(&rt, row) == row.4, index);
+fn shown_of_each_code(rt: HostRuntime) {
+    for code in [Code::Narrow, Code::Wide] {
+        show_places(&rt, code);
+        show_own(&rt, code);
+        show_parities(&rt, code);
+        show_reduced(&rt, code);
+    }
+}
+
+/// Shows the place of each index; no index after the last has one, and then none is shown of a name that is no text.
+#[test]
+fn shown_of_each_place(rt: HostRuntime) {
+    for index in 0..17usize {
+        let _ = match Place::from_index(index) {
+            Some(place) => {
+                println!(&rt; "{} {} {:?}", place.index(), place.name(), place.group())
+            }
+            None => println!(&rt; "{:?}", Place::named(b"\xffp")),
+        };
+    }
+}
+
+/// Shows the number, the place and the code that a text writes, if it writes one.
+pub fn show_written(rt: &impl Print, text: &str) {
+    let number = parse_number(text.as_bytes());
+    let _ = println!(rt;
+        "{:?}",
+        (number, Place::parse(text), Code::parse(text.as_bytes()))
+    );
+}
+
+/// Shows what a request gives of what it was made of.
+fn show_given(rt: &impl Print, request: Request) {
+    let _ = println!(rt;
+        "{:?}",
+        (
+            request.code(),
+            request.stripe(),
+            request.target(),
+            request.length()
+        )
+    );
+    let survivors = request.survivors();
+    let _ = println!(rt; "{:?}", (survivors.len(), survivors, request.sources()));
+    let _ = println!(rt;
+        "{:?}",
+        (request.bytes_at(Place::X0), request.bytes_at(Place::X1))
+    );
+    let fragments = request.into_survivors();
+    let _ = println!(rt; "{fragments:?}");
+}
+
+/// Shows what a request gives, or its refusal. Given are the name of its stripe, and after a comma the request.
+pub fn show_request(rt: &(impl Abort + AllocGlobal + Print), text: &str) {
+    let (stripe, request) = text.split_once(',').unwrap_or(("", ""));
+    match request_of(rt, stripe, request.split_whitespace()) {
+        Ok(request) => show_given(rt, request),
+        Err(fault) => {
+            let _ = println!(rt; "{fault:?} {}", fault.code());
+        }
     }
 }
 
@@ -204,44 +142,6 @@ fn earlier_refusals_ask_for_no_bytes(rt: HostRuntime) {
         let row = &EARLIER[index];
         assert_holds(&rt, first_of(row) == row.3, index);
     }
-}
-
-/// The request whose readers are called.
-static READ: Asked = ("a-1", Place::P0, 1, &[Y2, X1], None);
-
-/// Asserts that the readers give what the request of the test was made with, and its sources are the bytes of its two survivors.
-fn assert_read(rt: &impl Abort, request: &Request) {
-    let seven = &SEVENS[..1];
-    let survivors = request.survivors();
-    let sources = request.sources();
-    assert_so(rt, are_same_texts(request.stripe(), READ.0));
-    assert_so(rt, request.target() == READ.1);
-    assert_so(rt, request.length() == READ.2);
-    assert_so(rt, survivors.len() == 2);
-    assert_so(rt, survivors.has(Place::Y2));
-    let bytes = request.bytes_at(Place::X1).unwrap_or(NO_BYTES);
-    assert_so(rt, are_same_bytes(bytes, seven));
-    assert_so(rt, request.bytes_at(Place::X0).is_none());
-    for index in 0..16usize {
-        let is_survivor = (index == Place::X1.index()) | (index == Place::Y2.index());
-        let expected = if is_survivor { seven } else { NO_BYTES };
-        assert_holds(rt, are_same_bytes(sources[index], expected), index);
-    }
-}
-
-/// Whether it gives its two survivors back, in their order.
-fn gives_back(request: Request) -> bool {
-    match request.into_survivors().as_slice() {
-        [first, second] => first.place == Place::Y2 && second.place == Place::X1,
-        _ => false,
-    }
-}
-
-#[test]
-fn a_request_gives_what_it_was_made_of(rt: HostRuntime) {
-    let request = asked(&rt, &READ).expect(&rt, READ.0);
-    assert_read(&rt, &request);
-    assert_so(&rt, gives_back(request));
 }
 
 /// Whether these fragments have these bytes.
@@ -282,69 +182,6 @@ fn is_encoded(alloc: Global) -> Result<bool, AllocError> {
     Ok(are_fragments(&encode(alloc, &sources)?, STRIPE))
 }
 
-/// Asserts that the code is the wide one, and else the narrow one, by so many places and data. Left out of a set of a place of both and one
-/// of the wide code alone are so many others.
-fn assert_places(
-    rt: &impl Abort,
-    code: Code,
-    is_wide: bool,
-    (places, data, others): (usize, usize, usize),
-) {
-    let set = PlaceSet::empty().with(Place::X0).with(Place::X3);
-    let named = if is_wide { Some(Place::X3) } else { None };
-    assert_so(rt, code.places().len() == places);
-    assert_so(rt, code.data_count() == data);
-    assert_so(rt, code.has(Place::X3) == is_wide);
-    assert_so(rt, code.has(Place::Y5) == is_wide);
-    assert_so(rt, code.has(Place::P1));
-    assert_so(rt, code.named(b"x3") == named);
-    assert_so(rt, code.others(set).len() == others);
-}
-
-#[test]
-fn each_code_has_its_own_places(rt: HostRuntime) {
-    assert_places(&rt, Code::Narrow, false, (10, 6, 9));
-    assert_places(&rt, Code::Wide, true, (16, 12, 14));
-}
-
-/// The coefficients of px, py, p0 and p1 of (6,2,2).
-static NARROW_ROWS: [[u8; 12]; 4] = [
-    [1, 1, 1, 0, 0, 0, 0, 0, 0, 0, 0, 0],
-    [0, 0, 0, 1, 1, 1, 0, 0, 0, 0, 0, 0],
-    [4, 8, 12, 1, 2, 3, 0, 0, 0, 0, 0, 0],
-    [16, 64, 80, 1, 4, 5, 0, 0, 0, 0, 0, 0],
-];
-
-/// And of (12,2,2).
-static WIDE_ROWS: [[u8; 12]; 4] = [
-    [1, 1, 1, 1, 1, 1, 0, 0, 0, 0, 0, 0],
-    [0, 0, 0, 0, 0, 0, 1, 1, 1, 1, 1, 1],
-    [16, 32, 48, 64, 80, 96, 1, 2, 3, 4, 5, 6],
-    [29, 116, 105, 205, 208, 185, 1, 4, 5, 16, 17, 20],
-];
-
-/// Asserts that a parity has these coefficients.
-fn assert_coefficients(rt: &impl Abort, found: &[Gf; 12], row: &[u8; 12]) {
-    for k in 0..12usize {
-        assert_holds(rt, found[k].byte() == row[k], k);
-    }
-}
-
-/// Asserts that a code's parities have these.
-fn assert_parities(rt: &impl Abort, code: Code, [px, py, p0, p1]: &[[u8; 12]; 4]) {
-    let found = code.parities();
-    assert_coefficients(rt, &found.px, px);
-    assert_coefficients(rt, &found.py, py);
-    assert_coefficients(rt, &found.p0, p0);
-    assert_coefficients(rt, &found.p1, p1);
-}
-
-#[test]
-fn each_code_has_its_coefficients(rt: HostRuntime) {
-    assert_parities(&rt, Code::Narrow, &NARROW_ROWS);
-    assert_parities(&rt, Code::Wide, &WIDE_ROWS);
-}
-
 static WIDE_STRIPE: &[&[u8]; 16] = &[
     b"\x01", b"\0", b"\0", b"\0", b"\0", b"\x01", b"\x02", b"\0", b"\0", b"\0", b"\0", b"\0",
     b"\x00", b"\x02", b"\x72", b"\xa6",
@@ -364,30 +201,4 @@ fn is_encoded_wide(alloc: Global) -> Result<bool, AllocError> {
 fn stripes_have_the_known_parities(rt: HostRuntime) {
     assert_so(&rt, is_encoded(rt.alloc()) == Ok(true));
     assert_so(&rt, is_encoded_wide(rt.alloc()) == Ok(true));
-}
-
-/// How many rows of a code have x5 as their pivot, where it is lost alone, and how many have another pivot or a coefficient of x5.
-fn pivots_of_x5(code: Code) -> (u32, u32) {
-    let reduced = reduce_in(code, PlaceSet::empty().with(Place::X5));
-    let mut pivots = 0u32;
-    let mut others = 0u32;
-    for row in 0..4usize {
-        match reduced.pivot(row) {
-            Some(Place::X5) => pivots = pivots.wrapping_add(1),
-            Some(_) => others = others.wrapping_add(1),
-            None if reduced.coefficient(row, Place::X5).byte() != 0 => {
-                others = others.wrapping_add(1);
-            }
-            None => {}
-        }
-    }
-    (pivots, others)
-}
-
-/// With x5 lost alone in the (12,2,2) code one row has a pivot. A lost place outside the code plays no part.
-#[test]
-fn a_place_outside_the_code_is_no_pivot(rt: HostRuntime) {
-    let (wide, _) = pivots_of_x5(Code::Wide);
-    assert_so(&rt, wide == 1);
-    assert_so(&rt, pivots_of_x5(Code::Narrow) == (0, 0));
 }
