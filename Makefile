@@ -169,8 +169,8 @@ try-ceph-releases: store
 AFTER := ceph/test.sh $(addprefix gate/,store-faults.py file-faults.py refusals.py store-strangers.py store-files.py) tools/try.sh \
   $(addprefix gate/,store-damage.py packages.sh store-watching.py store-sharing.py repair-store.py encode-store.py store-life.py \
   store-options.py store-arguments.py store-results.py store-names.py store-records.py store-disks.py no-compile.py reference-lines.sh \
-  line-mode.py arguments.py lists.py farm-folders.py farm-calls.py farm-batches.py farm-shelves.py ends.sh examples.py manual.sh \
-  completions.sh install.sh version.sh numbers.py tables.py growth.py memory.py) tools/demo.sh
+  line-mode.py answers.py codes.py arguments.py lists.py farm-folders.py farm-calls.py farm-batches.py farm-shelves.py ends.sh \
+  examples.py manual.sh completions.sh install.sh version.sh numbers.py tables.py growth.py memory.py) tools/demo.sh
 
 # What it runs before them, of sources and pages; none of these writes a file of the repository.
 BEFORE := $(addprefix gate/,formatted.sh wrong-bodies.sh architecture.py sweep.py documented.py pages.py sentences.py messages.py \
