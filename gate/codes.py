@@ -149,38 +149,26 @@ def test_texts(checks):
         checks.compare(f"what is written by {text!r}", line, f"({', '.join(wanted)})")
 
 
-# The places of each code in its order, how many data it has, and how many others a set of x0 and x3 leaves; whether it has x3, y5 and p1,
-# and its place that is named x3.
+# The places of each code in its order, how many data it has, and how many others a set of x0 and x3 leaves. Its coefficients are compared
+# by library/test.c, with those of library/stripes.h.
 NARROW_PLACES = "x0 x1 x2 y0 y1 y2 px py p0 p1".split()
 WIDE_PLACES = "x0 x1 x2 x3 x4 x5 y0 y1 y2 y3 y4 y5 px py p0 p1".split()
-# The coefficients of px, py, p0 and p1.
-NARROW_ROWS = [[1, 1, 1, 0, 0, 0, 0, 0, 0, 0, 0, 0], [0, 0, 0, 1, 1, 1, 0, 0, 0, 0, 0, 0], [4, 8, 12, 1, 2, 3, 0, 0, 0, 0, 0, 0],
-               [16, 64, 80, 1, 4, 5, 0, 0, 0, 0, 0, 0]]
-WIDE_ROWS = [[1, 1, 1, 1, 1, 1, 0, 0, 0, 0, 0, 0], [0, 0, 0, 0, 0, 0, 1, 1, 1, 1, 1, 1],
-             [16, 32, 48, 64, 80, 96, 1, 2, 3, 4, 5, 6], [29, 116, 105, 205, 208, 185, 1, 4, 5, 16, 17, 20]]
-SHOWN_CODES = [(NARROW_PLACES, 6, 9, "false false true None", NARROW_ROWS),
-               (WIDE_PLACES, 12, 14, "true true true Some(X3)", WIDE_ROWS)]
-
-
-def elements(row):
-    return f"[{', '.join(map(element, row))}]"
+SHOWN_CODES = [(NARROW_PLACES, 6, 9), (WIDE_PLACES, 12, 14)]
 
 
 def test_codes(checks):
-    """Each code has its own places and coefficients. With x5 lost alone in the (12,2,2) code one row has a pivot, which is x5; in the other
-    it plays no part."""
+    """Each code has its own places. With x5 lost alone in the (12,2,2) code one row has a pivot, which is x5; in the other it plays no
+    part."""
     came = shown(test="code::shown_of_each_code")
-    checks.compare("how much is shown of codes", len(came), 20)
-    for number, (places, data, others, has, rows) in enumerate(SHOWN_CODES):
-        own = came[10 * number:10 * number + 10]
+    checks.compare("how much is shown of codes", len(came), 10)
+    for number, (places, data, others) in enumerate(SHOWN_CODES):
+        own = came[5 * number:5 * number + 5]
         left = set_text({*places} - {"x0", "x3"})
         checks.compare("its places", own[0], f"[{', '.join(map(variant, places))}] {data} {others} {left}")
-        checks.compare("which it has", own[1], has)
-        checks.compare("its coefficients", own[2:6], [elements(row) for row in rows])
         if number == 0:
-            checks.compare("rows without x5", own[6:], [f"None {element(0)}"] * 4)
+            checks.compare("rows without x5", own[1:], [f"None {element(0)}"] * 4)
         else:
-            checks.compare("rows with x5", sum(line.startswith("Some(X5) ") for line in own[6:]), 1)
+            checks.compare("rows with x5", sum(line.startswith("Some(X5) ") for line in own[1:]), 1)
 
 
 # Names of a stripe, and requests, each a code, or - for none, the target, the length and the survivors; and the refusal of each.
@@ -204,9 +192,9 @@ def made_of(code, stripe, line):
     """What a request shows of what it was made of."""
     _, target, length, *words = line.split()
     survivors = {name: [*bytes.fromhex(digits)] for name, digits in (word.split("=") for word in words)}
-    yield f'({code}, "{stripe}", {variant(target)}, {length})'
-    yield f"({len(survivors)}, {set_text(survivors)}, {[survivors.get(place, []) for place in PLACES]})"
-    yield f"({option(survivors.get('x0'))}, {option(survivors.get('x1'))})"
+    yield f"{code} {stripe} {variant(target)} {length}"
+    yield f"{len(survivors)} {set_text(survivors)} {[survivors.get(place, []) for place in PLACES]}"
+    yield f"{option(survivors.get('x0'))} {option(survivors.get('x1'))}"
     fragments = [f"Fragment {{ place: {variant(place)}, bytes: {found} }}" for place, found in survivors.items()]
     yield f"[{', '.join(fragments)}]"
 

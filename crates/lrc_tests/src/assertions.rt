@@ -3,17 +3,11 @@
 ghost use Rattle.std.specs.Prelude.{◌≡◌, Ok};
 
 use std::alloc::AllocError;
-use std::fmt::Debug;
 use std::process::Abort;
 
 /// Asserts that what a test is named for holds.
 pub fn assert_so(rt: &impl Abort, holds: bool) {
     assert!(rt; holds);
-}
-
-/// Asserts that something holds of a case, and else names the case.
-pub fn assert_holds<T: Copy + Debug>(rt: &impl Abort, holds: bool, case: T) {
-    assert!(rt; holds, "{case:?}");
 }
 
 /// What a call gives that is granted its memory. Where it is refused the test ends, and says so in the words of a test that gives the

@@ -2,12 +2,12 @@
 //! stripes, which no program makes by `encode`.
 ghost use Rattle.std.specs.Prelude.{◌≡◌, All, length, true};
 
-use super::assertions::{are_same_bytes, assert_holds, assert_so};
+use super::assertions::{are_same_bytes, assert_so};
 use super::given::request_of;
 use lrc_code::text::parse_number;
 use lrc_code::{
-    AskedPlaces, Code, ParityRows, Place, PlaceSet, Request, RequestFault, encode, encode_wide,
-    first_refusal, reduce_in,
+    AskedPlaces, Code, Place, PlaceSet, Request, RequestFault, encode, encode_wide, first_refusal,
+    reduce_in,
 };
 use std::alloc::{AllocError, Global};
 use std::array;
@@ -24,23 +24,6 @@ fn show_places(rt: &impl Print, code: Code) {
     );
 }
 
-/// Shows which of three places it has, and its place of the name x3.
-fn show_own(rt: &impl Print, code: Code) {
-    let named = code.named(b"x3");
-    let _ = println!(rt;
-        "{} {} {} {named:?}",
-        code.has(Place::X3),
-        code.has(Place::Y5),
-        code.has(Place::P1)
-    );
-}
-
-/// Shows the coefficients of its parities.
-fn show_parities(rt: &impl Print, code: Code) {
-    let ParityRows { px, py, p0, p1 } = code.parities();
-    let _ = println!(rt; "{px:?}\n{py:?}\n{p0:?}\n{p1:?}");
-}
-
 /// Shows the rows of a code where x5 is lost alone: the pivot of each, and its coefficient of x5.
 fn show_reduced(rt: &impl Print, code: Code) {
     let reduced = reduce_in(code, PlaceSet::empty().with(Place::X5));
@@ -54,8 +37,6 @@ fn show_reduced(rt: &impl Print, code: Code) {
 fn shown_of_each_code(rt: HostRuntime) {
     for code in [Code::Narrow, Code::Wide] {
         show_places(&rt, code);
-        show_own(&rt, code);
-        show_parities(&rt, code);
         show_reduced(&rt, code);
     }
 }
@@ -82,23 +63,23 @@ pub fn show_written(rt: &impl Print, text: &str) {
     );
 }
 
-/// Shows what a request gives of what it was made of.
-fn show_given(rt: &impl Print, request: Request) {
+/// Shows what the readers of a request give.
+fn show_readers(rt: &impl Print, request: &Request) {
+    let (stripe, target) = (request.stripe(), request.target());
     let _ = println!(rt;
-        "{:?}",
-        (
-            request.code(),
-            request.stripe(),
-            request.target(),
-            request.length()
-        )
+        "{:?} {stripe} {target:?} {}",
+        request.code(),
+        request.length()
     );
     let survivors = request.survivors();
-    let _ = println!(rt; "{:?}", (survivors.len(), survivors, request.sources()));
-    let _ = println!(rt;
-        "{:?}",
-        (request.bytes_at(Place::X0), request.bytes_at(Place::X1))
-    );
+    let _ = println!(rt; "{} {survivors:?} {:?}", survivors.len(), request.sources());
+    let (first, second) = (request.bytes_at(Place::X0), request.bytes_at(Place::X1));
+    let _ = println!(rt; "{first:?} {second:?}");
+}
+
+/// Shows what a request gives of what it was made of.
+fn show_given(rt: &impl Print, request: Request) {
+    show_readers(rt, &request);
     let fragments = request.into_survivors();
     let _ = println!(rt; "{fragments:?}");
 }
@@ -140,7 +121,7 @@ fn first_of(row: &(bool, bool, Option<RequestFault>, u8)) -> u8 {
 fn earlier_refusals_ask_for_no_bytes(rt: HostRuntime) {
     for index in 0..EARLIER.len() {
         let row = &EARLIER[index];
-        assert_holds(&rt, first_of(row) == row.3, index);
+        assert_so(&rt, first_of(row) == row.3);
     }
 }
 
