@@ -247,7 +247,15 @@ MOUNTS = r"""
 34 27 0:43 / /old/deep rw,relatime - ext4 /dev/vdc rw
 35 27 0:44 / /old rw,relatime - nfs4 one:/old rw,vers=4.2
 36 35 0:45 / /old/new rw,relatime - btrfs /dev/vdd rw
+37 27 0:46 / /two rw,relatime - nfs4 one:/two rw,vers=4.2
+38 27 0:47 / /two rw,relatime - ext4 /dev/vde rw
 a line of another form
+"""
+# That of a host whose first file system is on itself, as one in memory is from which it was started.
+MOUNTS_ON_ITSELF = """
+1 1 0:2 / / rw - rootfs rootfs rw
+21 1 0:30 / /srv rw,relatime - nfs4 one:/srv rw,vers=4.2
+22 21 254:0 / /srv/a rw,relatime - ext4 /dev/vda rw
 """
 # A path, and whom locks keep out there.
 ONE_HOST, SHARED, UNKNOWN = "one host", "shared files", "unknown"
@@ -255,8 +263,9 @@ LOCKINGS = {
     "/": ONE_HOST, "/home/store": ONE_HOST, "/proc/self": UNKNOWN, "/process": ONE_HOST, "/srv": SHARED,
     "/srv/store": SHARED, "/srvs": ONE_HOST, "/srv/a": UNKNOWN, "/srv/a/store": UNKNOWN, "/srv/ab": SHARED,
     "/srv/b/store": UNKNOWN, "/srv/with space/store": ONE_HOST, "/srv/with": SHARED, "/srv/c/store": ONE_HOST,
-    "/old": SHARED, "/old/deep/store": SHARED, "/old/new/store": ONE_HOST, "store": UNKNOWN,
+    "/old": SHARED, "/old/deep/store": SHARED, "/old/new/store": ONE_HOST, "/two/store": ONE_HOST, "store": UNKNOWN,
 }
+LOCKINGS_ON_ITSELF = {"/": UNKNOWN, "/home/store": UNKNOWN, "/srv": SHARED, "/srv/store": SHARED, "/srv/a/store": ONE_HOST}
 # A path, its folder, its last part, and the folder in the store of a name.
 PATHS = [("a", ".", "a", ""), ("a/b", "a", "b", "a"), ("/a", "/", "a", ""), ("a/b/c", "a/b", "c", "a/b"), ("/a/b", "/a", "b", "/a"),
          ("a/", "a", "", "a"), ("", ".", "", "")]
@@ -289,9 +298,14 @@ def calls_of_parts():
 
 
 def test_calls(_place):
-    calls = [*calls_of_patterns(), *calls_of_runs(), *calls_of_paths(), *calls_of_parts()]
+    hold_calls(MOUNTS, [*calls_of_patterns(), *calls_of_runs(), *calls_of_paths(), *calls_of_parts()])
+    hold_calls(MOUNTS_ON_ITSELF, [(("locking_at", path), locking) for path, locking in LOCKINGS_ON_ITSELF.items()])
+
+
+def hold_calls(mounts, calls):
+    """Holds calls to what they have to give where this is the table of mounts."""
     given = "".join(f"{'|'.join(map(str, words))}\n" for words, _ in calls)
-    out, err, status = ran([TESTS, "names::calls_are_shown"], f"{MOUNTS.strip()}\n\n{given}")
+    out, err, status = ran([TESTS, "names::calls_are_shown"], f"{mounts.strip()}\n\n{given}")
     came = out.split("\n")
     check((came[len(calls):], err, status) == (["", "test result: ok", ""], "", 0), f"the test doesn't end well: {out[-300:]}{err}{status}")
     for (words, wanted), gives in zip(calls, came):

@@ -8,6 +8,7 @@ The mounts are in memory, in files by a loop device, or of this host by sshfs, i
 host is a namespace with another name. What can't be mounted here, or what root alone can try, is said to be skipped."""
 
 import errno
+import fcntl
 import os
 import pathlib
 import random
@@ -218,7 +219,7 @@ def try_locks(kind, one, _other, choose):
     """The file of a lock that nobody has locked here: another host's, one of a process here that works or is gone, or of nobody known; and
     a file that is no lock, which refuses the runs that need its name."""
     host, gone = socket.gethostname(), ended_process()
-    texts = {f"{gone}@{host}\n": False, f"{os.getpid()}@{host}\n": True, f"{gone}@beta\n": True, "": True, NO_LOCK: True}
+    texts = {f"{gone}@{host}\n": False, f"{os.getpid()}@{host}\n": True, f"{gone}@beta\n": True, "": True, "\0" * 14: True, NO_LOCK: True}
     for text, may_work in texts.items():
         for name, commands in KEPT_OUT.items():
             for verb, *words in commands:
@@ -232,7 +233,9 @@ def try_locks(kind, one, _other, choose):
                 if text == NO_LOCK and name == f"part-{part.replace('/', '-of-')}":
                     check(status == 3 and "isn't one" in said and there(one / "store") == before, what)
                 elif may_work and kind in UNKNOWN:
-                    check(status == 1 and MAYBE in said and there(one / "store") == before, what)
+                    process, _, of = text.strip().partition("@")
+                    run_of_it = f"process {process} of the host {of}" if of else "a run that isn't known"
+                    check(status == 1 and f"{lock}: {run_of_it} {MAYBE}" in said and there(one / "store") == before, what)
                 else:
                     check(MAYBE not in said and HELD not in said and (verb == "remove" or status == 0), what)
 
@@ -256,9 +259,10 @@ def try_own_locks(kind, one, _other, choose):
     no lock but its own."""
     store, lock, host = one / "store", one / "store" / f"{PREFIX}part-1-of-1", socket.gethostname()
     lay(store, choose)
-    lock.write_text(f"{ended_process()}@{host}\n")
+    # Of more digits than this run has: proc(5) says that no process gets this number, and what is written over is longer.
+    lock.write_text(f"{2 ** 22}@{host}\n")
     process = begun(store, "--part", "1/1")
-    check(kind not in UNKNOWN or lock.read_text() == f"{process.pid}@{host}\n", f"the lock says {lock.read_text()!r}")
+    check(lock.read_text() == f"{process.pid if kind in UNKNOWN else 2 ** 22}@{host}\n", f"the lock says {lock.read_text()!r}")
     killed(process)
     if kind in UNKNOWN:
         try_unwritten_lock(one, choose, lock, f"{ended_process()}@{host}\n")
@@ -299,6 +303,44 @@ def try_encode(kind, one, other, choose):
 
 
 TRIES = [try_two, try_other_host, try_leftovers, try_locks, try_own_locks, try_encode]
+# A table of mounts whose first one is on itself, as that of a host which was started from a file system in memory; and the kinds of those
+# that are on it at one place, of which the last is seen, with whether nothing is known of locks there.
+TABLE = "1 1 0:2 / / rw - rootfs rootfs rw\n"
+MOUNT = "{} 1 0:{} / {} rw - {} one:/store rw,vers=4.2\n"
+KINDS = {("nfs4",): False, ("ext4",): False, ("fuse.sshfs",): True, ("fuse.sshfs", "ext4"): False, ("ext4", "fuse.sshfs"): True}
+# Runs a command that sees this table, and nothing else of what the system says of processes.
+WITH_TABLE = ["unshare", "--mount", "sh", "-c",
+              'mount -t tmpfs tmpfs /proc && mkdir /proc/self && printf %s "$0" > /proc/self/mountinfo || exit 77; exec "$@"']
+
+
+def by_table(store, kinds):
+    """A repair that sees mounts of these kinds at its store: its status and what it says."""
+    table = TABLE + "".join(MOUNT.format(number, number, store, kind) for number, kind in enumerate(kinds, 21))
+    done = subprocess.run([*WITH_TABLE, table, PROGRAM, "repair", store], stdin=subprocess.DEVNULL, capture_output=True, text=True,
+                          timeout=SECONDS)
+    if done.returncode == 77:
+        raise Skipped(f"nothing can be mounted over /proc: {done.stderr.strip()}")
+    return done.returncode, done.stdout + done.stderr
+
+
+def try_table(place):
+    """Whom locks keep out is said by the table of mounts, in which a mount is found that is on the first one: what another host has left
+    keeps a run out where nothing is known, and the lock of all of the store is a file's wherever other hosts may be."""
+    store, choose = place / "by-table", random.Random(1)
+    for kinds, is_unknown in KINDS.items():
+        whole = lay(store, choose)
+        lock = store / f"{PREFIX}part-1-of-1"
+        lock.write_text("4711@beta\n")
+        status, said = by_table(store, kinds)
+        check((status, MAYBE in said) == ((1, True) if is_unknown else (0, False)), f"by {kinds}: {status}: {said}")
+        if not is_unknown:
+            is_whole(store, whole)
+        lock.write_text("")
+        with open(lock, "r+b") as held:
+            fcntl.flock(held, fcntl.LOCK_EX)
+            status, said = by_table(store, kinds)
+        check((status, HELD in said) == ((0, False) if kinds[-1] == "ext4" else (1, True)), f"by {kinds}: {status}: {said}")
+        lock.unlink()
 
 
 def in_memory(kind, place):
@@ -410,6 +452,10 @@ def main():
         in_own_mounts()
     with tempfile.TemporaryDirectory() as place:
         place = pathlib.Path(place)
+        try:
+            try_table(place)
+        except Skipped as why:
+            skipped.append(f"a table of mounts: {why}")
         try:
             try_all(place)
         finally:
