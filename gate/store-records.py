@@ -228,6 +228,60 @@ def test_another_code(place):
     says(["lost", "--code", "12-2-2", "--json", store], "", f"{line}2 stripes; 0 fragments lost, 0 of them not in the list\n", 1)
 
 
+def test_digests_of_descriptions_alone(place):
+    """Digests that name nothing but descriptions are the store's too."""
+    store, sums = place / "store", place / "sums"
+    encode(place, store, "a", b"a")
+    sums.write_text(sum_lines({name: of for name, of in digests_of(store).items() if ".file" in name}))
+    says(["scrub", "--sums", sums, store], "scrubbed 1 stripe: 0 damaged, 0 lost or contradictory, 0 stripes without any check\n", "", 0)
+
+
+def test_descriptions_in_other_folders(place):
+    """A description says nothing in the folder of another stripe: a folder of another name has the stripe of that name alone."""
+    store, names = place / "store", ["--names", "{stripe}/{place}"]
+    encode(place, store, "a", b"a", "--make-folders", *names)
+    (store / "SHA256SUMS").unlink()
+    (store / "a").rename(store / "b")
+    says(["list", *names, store], "whole - 6-2-2 10/10 b\n", "1 file; not whole: 0\n", 0)
+
+
+def test_description_of_a_lost_stripe(place):
+    """What is named as a description and isn't one is said of a stripe that the sums name, though it has no fragment."""
+    store = place / "store"
+    lay(store, "a")
+    (store / "SHA256SUMS").write_text(sum_lines({f"{stripe}.{it}": digest(b"\0") for stripe in ("a", "gone") for it in PLACES["6-2-2"]}))
+    for name in ("gone.file", "gone.file.copy"):
+        (store / name).write_bytes(b"odd")
+    said = "".join(f"rebuild-store: {name}: isn't a line with a length, a digest and a code\n" for name in ("gone.file", "gone.file.copy"))
+    said += "rebuild-store: gone: no fragment can be read\n2 stripes; 10 fragments lost, 10 of them not in the list\n"
+    says(["lost", store], "order,stripe,target,length,survivors\n", said, 1)
+
+
+def part_of(stripe):
+    """Which of two parts a stripe is of."""
+    return int.from_bytes(hashlib.sha256(stripe.encode()).digest()[:8], "big") % 2 + 1
+
+
+def test_code_of_a_part(place):
+    """The code of a part is that which the descriptions of all parts say."""
+    store, (one, other) = place / "store", (next(it for it in "abcdefgh" if part_of(it) == part) for part in (1, 2))
+    encode(place, store, one, b"a", "--code", "12-2-2")
+    (store / "SHA256SUMS").unlink()
+    # All that this stripe has left are places that (6,2,2) has too.
+    lay(store, other, places=PLACES["6-2-2"])
+    says(["list", "--part", "2/2", store], f"lost - 12-2-2 10/16 {other}\n", "1 file; not whole: 1\n", 0)
+    says(["list", "--part", "1/2", store], f"whole 1 12-2-2 16/16 {one}\n", "1 file; not whole: 0\n", 0)
+
+
+def test_code_that_sums_say(place):
+    """Where no description is left and no fragment, the places that the sums name say the code."""
+    for code, places in PLACES.items():
+        store = place / code
+        store.mkdir()
+        (store / "SHA256SUMS").write_text(sum_lines({f"a.{it}": A for it in places}))
+        says(["list", store], f"lost - {code} 0/{len(places)} a\n", "1 file; not whole: 1\n", 0)
+
+
 # The files of two stores, each with its line and its object.
 FILES = {
     "6-2-2": [

@@ -96,6 +96,6 @@ fn are_determined(
     store: &OpenStore,
     survivors: PlaceSet,
 ) -> Result<bool, AllocError> {
-    let lost = lost_places(alloc, store.code, survivors, survivors.others())?;
+    let lost = lost_places(alloc, store.code, survivors, store.code.others(survivors))?;
     Ok(lost.several.is_empty())
 }
