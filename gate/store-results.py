@@ -376,6 +376,31 @@ def test_errors(place, choose):
         compare(f"{error} at a copy's name", (ran.status, ran.err), (3, line))
 
 
+def test_copies_that_cannot_be_made(place, _choose):
+    """Whichever call fails while a copy of a description is made, nothing is left of it under another name, and the copy isn't there in
+    part. The last of the calls writes its name to the disk, which is that of its folder."""
+    source, store, calls, names = place / "a", place / "b", Calls(place), ["--names", "{stripe}/{place}"]
+    source.write_bytes(b"some text")
+    run("encode", "--make-folders", *names, store, source, status=0)
+    copy = store / "a/a.file.copy"
+    line = copy.read_bytes()
+    command = [PROGRAM, "repair", "-j", "1", *names, store]
+    copy.unlink()
+    tried, synced = set(), []
+    for number, kind in enumerate(calls.run(command).kinds, 1):
+        if kind not in ("create", "write", "chown", "chmod", "sync", "link"):
+            continue
+        copy.unlink(missing_ok=True)
+        ran = calls.run(command, number, 28)
+        left = [path.name for path in copy.parent.iterdir() if path.name.startswith(".rebuild-store-")]
+        compare(f"what is left after call {number}, {kind}: {ran.text()}", left, [])
+        check(not copy.exists() or copy.read_bytes() == line, f"call {number}, {kind}: a part of a copy has its name")
+        check(ran.status == 3 and "a.file.copy: can't be put in its place: No space left on device\n" in ran.err, f"{kind}: {ran.text()}")
+        tried.add(kind)
+        synced += [ran.paths[0]] * (kind == "sync")
+    check({"create", "write", "sync", "link"} <= tried and synced[-1:] == [str(copy.parent)], f"only {sorted(tried)} are tried: {synced}")
+
+
 # Words of errors that aren't the system's, which have no number that is left out.
 OTHER_ERRORS = ["is a link", "(os error 2) odd", "odd (os error x)", ")"]
 
