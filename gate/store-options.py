@@ -147,6 +147,11 @@ def test_stripes(folder, code, choose):
     check(len(output.splitlines()) == 1, output)
     _, errors = run("repair", folder, "--code", code, "--stripes", names.with_name("absent"), status=3)
     check("absent: No such file or directory" in errors, errors)
+    # Spaces round a name are of the name.
+    spaces = folder.with_name("spaces")
+    lay(spaces, stripes_of(code, choose, [" a ", "b\t"]), plain)
+    names.with_name("spaced").write_text(" a \nb\t\r\n")
+    run("scrub", spaces, "--code", code, "--stripes", names.with_name("spaced"), status=0)
     # The store's own digests are looked at beside such a list too.
     (folder / "SHA256SUMS").write_text(sums_of(folder))
     (folder / "a.y1").write_bytes(bytes(300))
