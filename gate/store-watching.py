@@ -402,6 +402,31 @@ def test_parts_look_at_their_part(place, choose):
     check(is_whole(store, all_of_it), "the store isn't whole")
 
 
+def test_descriptions_of_parts(place, choose):
+    """A part whose code is given reads the descriptions of its own stripes and no others, if strace is there to see it; and it passes over
+    none of these where another part's fragments may have such a name."""
+    store, names = place / "s", [f"a{k}" for k in range(40)]
+    make(store, choose, names, 16, ())
+    for name in names:
+        for ending in ("file", "file.copy"):
+            (store / f"{name}.{ending}").write_text(f"96 {hashlib.sha256(name.encode()).hexdigest()} 6-2-2\n")
+    mine = {name for name in names if part_of(name, 5) == 2}
+    if has_strace():
+        trace, done = traced(place, "openat", "lost", "--code", "6-2-2", "--part", "3/5", store)
+        read = set(re.findall(r'/(a\d+)\.file', trace))
+        check(done.returncode == 0 and read == mine, f"descriptions of {sorted(read)} are read, and not of {sorted(mine)}: {done}")
+    disks, words = place / "disks", ["--code", "6-2-2", "--names", "disk{shard}/{stripe}"]
+    name = next(name for name in names if part_of(name, 2) == 0 and part_of(f"{name}.file", 2) == 1)
+    (place / name).write_bytes(b"some bytes")
+    run("encode", "--make-folders", *words, disks, place / name)
+    # With it the digests would say what has to be there.
+    (disks / "SHA256SUMS").unlink()
+    (disks / f"disk3/{name}.file").unlink()
+    for part, status in ((1, 1), (2, 0)):
+        out, _ = run("scrub", *words, "--part", f"{part}/2", disks, status=status)
+        check((f"disk3/{name}.file: is lost\n" in out) == (part == 1), f"part {part}: {out}")
+
+
 def test_reports_at_fragments_of_other_parts(place, choose):
     """A report or counters at a path that leads to a fragment of any part are refused, by each part."""
     store, outside = place / "s", place / "outside"
@@ -441,8 +466,9 @@ def test_folder_by_folder(place, choose):
             opened = {pathlib.Path(it) for it in re.findall(r'openat\([^"]*"([^"]*)"[^)]*O_DIRECTORY', trace)}
             inside = {it for it in opened if store in it.parents}
             check(inside and all(it.name == folder for it in inside), f"{folder}: {sorted(opened)}")
-        said, _ = run("repair", "--names", pattern, store)
-        check(said.count("\n") == 1 and "10 fragments" in said, said)
+        said, errors = run("repair", "--names", pattern, store)
+        # Of the places that the store's code hasn't no folder is missed.
+        check(said.count("\n") == 1 and "10 fragments" in said and "counts as lost" not in errors, said + errors)
         there = {path: path.read_bytes() for path in store.rglob("*") if path.is_file()}
         whole = {path for path in all_of_it if path.parent.name in folders[: number + 1]}
         check(whole <= set(there) and all(there[path] == all_of_it[path] for path in there), f"after {folder}")
