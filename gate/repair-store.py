@@ -251,6 +251,20 @@ def test_what_is_read(folder, code, choose):
         check(is_whole(folder, stripes), "the store isn't what it was")
 
 
+def test_what_is_read_to_know_the_code(folder, code, choose):
+    """Without a code the beginnings of the first stripe's fragments are looked at, and no other stripe's if they fit the code."""
+    stripes = make(folder, code, [3 * WINDOW] * 3, choose)
+    (folder / "SHA256SUMS").write_text(sums_of(stripes))
+    (folder / "s002.x0").unlink()
+    _, _, _, read, opened = traced(folder, "repair", folder, status=0)
+    if read is not None:
+        first = {file: many for file, many in read.items() if file.startswith("s000.")}
+        check(first and all(0 < many <= WINDOW for many in first.values()), f"{first}")
+        check(not any(file.startswith("s001.") for file in opened), f"{sorted(opened)} are opened")
+    (folder / "SHA256SUMS").unlink()
+    check(is_whole(folder, stripes), "the store isn't what it was")
+
+
 def test_damage_of_what_is_read(folder, code, choose):
     """If what is read is damaged, or what is rebuilt differs from its digest, all survivors are read, with all digests: what they say is
     what a repair of all says. Damage elsewhere isn't looked for, unless that is asked for."""
@@ -528,6 +542,9 @@ def test_other_stores(folder, code, choose):
     # The first stripe has too few fragments to say anything.
     for place in ("x0", "y1"):
         (folder / f"a.{place}").write_bytes(choose.randbytes(50))
+    # The second one has no bytes, and so is of each code.
+    for place in stripes["s000"]:
+        (folder / f"b.{place}").write_bytes(b"")
     before = {path.name: path.read_bytes() for path in folder.iterdir()}
     _, errors = run("repair", folder, status=1)
     check("is this the store?" in errors and "s000" in errors, errors)
@@ -562,9 +579,9 @@ def test_refusals(folder):
 
 def main():
     choose = random.Random(2026)
-    tests = (test_losses, test_fewest, test_what_is_read, test_damage_of_what_is_read, test_survivors_that_cannot_be_read, test_damage,
-             test_suspects, test_too_many, test_odd_files, test_owner_and_mode, test_requests, test_odd_names,
-             test_two_at_once, test_kills, test_other_stores)
+    tests = (test_losses, test_fewest, test_what_is_read, test_what_is_read_to_know_the_code, test_damage_of_what_is_read,
+             test_survivors_that_cannot_be_read, test_damage, test_suspects, test_too_many, test_odd_files, test_owner_and_mode,
+             test_requests, test_odd_names, test_two_at_once, test_kills, test_other_stores)
     with tempfile.TemporaryDirectory() as scratch:
         place = pathlib.Path(scratch)
         for code in CODES:

@@ -206,6 +206,17 @@ fn is_refused(
     if opening.code.is_some() || opening.part.is_some() {
         return Ok(false);
     }
+    // All of a fragment is held to its digest: that is done only if the beginnings fit no stripe.
+    let files = FolderStore::new(
+        rt,
+        Site {
+            sums: None,
+            ..*site
+        },
+    );
+    if refuse_other_stores(rt.alloc(), store, &files, stripes)?.is_none() {
+        return Ok(false);
+    }
     let files = FolderStore::new(rt, *site);
     match refuse_other_stores(rt.alloc(), store, &files, stripes)? {
         Some(fault) => {
