@@ -211,6 +211,11 @@ def test_report_in_the_store(place, choose):
     kept = (disks / "disk3/note").read_bytes()
     run("repair", disks, *names, "--report", disks / "disk3/note", status=2)
     hold((disks / "disk3/note").read_bytes() == kept, "a fragment was replaced by a report")
+    # Nor is it written under a name that the store gives to other files in a disk's folder.
+    for name in ("note.file", "note.damaged", LEFTOVER, LEFTOVER_OF_PART):
+        for option in ("--report", "--progress"):
+            said = run("repair", disks, *names, option, disks / "disk3" / name, status=2)
+            hold(sorted(path.name for path in (disks / "disk3").iterdir()) == ["note"], f"{option} {name}: {said}")
     run("repair", disks, *names, "--report", disks / "report.csv", status=0)
 
 
@@ -372,10 +377,19 @@ def test_links_above_folders(place, choose):
     files = lay_disks(outside, choose)
     (store / "in").symlink_to(outside)
     source.write_bytes(b"source")
-    hold("is this the store?" in run("scrub", store, *names, status=1), "a link above the folders of disks was gone through")
+    said = run("scrub", store, *names, status=1)
+    hold("is this the store?" in said, "a link above the folders of disks was gone through")
+    hold(f"rebuild-store: {store}/in: is a link, and isn't followed without --follow-links\n" in said, f"it isn't said as one link: {said}")
     hold("its folder is a link" in run("encode", store, source, *names, status=3), "a file was encoded through a link")
     hold(below(outside) == files, "something was written through a link")
     run("scrub", store, *names, "--follow-links", status=0)
+    # One that leads to itself is said once, and not for each of the folders.
+    (store / "in").unlink()
+    (store / "in").symlink_to("in")
+    wanted = place / "above-wanted"
+    wanted.write_text("a\n")
+    said = run("scrub", store, *names, "--follow-links", "--stripes", wanted, status=3)
+    hold(said.count(f"{store}/in: Too many levels of symbolic links: what should be in it counts as lost\n") == 1, said)
     (outside / "disk3/a").unlink()
     given = place / "given-as-a-link"
     given.symlink_to(outside)
@@ -399,6 +413,45 @@ def test_linked_digests(place, choose):
     hold((store / "SHA256SUMS").is_symlink() and outside.read_text() == "", "digests were written through a link")
     run("repair", store, "--follow-links", status=0)
     hold((store / "s.x0").read_bytes() == files["s.x0"], "the fragment isn't what it was")
+    # Nor are they believed where a file is read: they alone say which three of its fragments are damaged.
+    store, outside = place / "read-sums", place / "read-sums-outside"
+    source.write_bytes(choose.randbytes(600))
+    run("encode", store, source, status=0)
+    (store / "SHA256SUMS").rename(outside)
+    (store / "SHA256SUMS").symlink_to(outside)
+    for name in ("x0", "y0", "y1"):
+        (store / f"summed.{name}").write_bytes(bytes(100))
+    said = run("read", store, "summed", status=1)
+    hold("summed: the fragments that are there don't give the file" in said, said)
+    said = run("read", store, "summed", "--follow-links", status=0)
+    hold("summed: read without the fragments that differ from SHA256SUMS" in said, said)
+
+
+def test_digests_that_are_no_file(place, choose):
+    """A folder or a FIFO with the name of the digests isn't taken for them, and holds nothing up."""
+    for kind, make in (("folder", os.mkdir), ("fifo", os.mkfifo)):
+        store = place / kind
+        files = lay(store, choose)
+        make(store / "SHA256SUMS")
+        (store / "s.x0").unlink()
+        said = run("scrub", store, status=1)
+        hold("SHA256SUMS" not in said and "scrubbed 1 stripe: 0 damaged, 1 lost" in said, f"{kind}: {said}")
+        run("repair", store, status=0)
+        hold((store / "s.x0").read_bytes() == files["s.x0"], f"{kind}: the fragment isn't what it was")
+
+
+def test_stores_that_are_no_folders(place, choose):
+    """A FIFO, a device or a file that is given as the store is refused, and holds nothing up."""
+    fifo, file, source = place / "fifo", place / "file", place / "source"
+    os.mkfifo(fifo)
+    file.write_bytes(b"no store")
+    source.write_bytes(b"source")
+    for path in (fifo, file, pathlib.Path("/dev/null")):
+        for command in (["repair", path], ["repair", path, "--part", "1/2"], ["repair", path, "--dry-run"], ["scrub", path], ["lost", path],
+                        ["list", path], ["remove", path, "source"], ["encode", path, source]):
+            said = run(*command, status=3)
+            hold(f"{path}: not a directory\n" in said.replace("Not", "not"), f"{command}: {said}")
+    hold(file.read_bytes() == b"no store" and stat.S_ISFIFO(fifo.lstat().st_mode), "what was given as a store was changed")
 
 
 def test_locks(place, choose):
@@ -621,6 +674,27 @@ def test_leftovers_that_cannot_be_removed(place, choose):
     hold((store / "s.x0").read_bytes() == files["s.x0"], "the fragment isn't what it was")
 
 
+def test_leftovers_where_links_lead(place, choose):
+    """What can't be opened where a link leads may be of a run that works in another store: it stays and is said, and the others go."""
+    how = as_user(place)
+    store, outside = place / "leading", place / "led-to"
+    files = lay(store, choose)
+    outside.mkdir()
+    for folder in (store, outside):
+        folder.chmod(0o777)
+    (store / "s.x0").rename(outside / "x0")
+    (store / "s.x0").symlink_to(outside / "x0")
+    (store / "s.y0").unlink()
+    closed, left = outside / LEFTOVER, outside / LEFTOVER_OF_PART
+    for path, mode in ((closed, 0o600), (left, 0o666)):
+        path.write_bytes(b"half")
+        path.chmod(mode)
+    said = run("repair", store, "--follow-links", status=3, **how)
+    hold(closed.read_bytes() == b"half" and not left.exists(), f"{sorted(there(outside))}: {said}")
+    hold(f"{closed}: is left over, and can't be removed: Permission denied" in said, said)
+    hold((store / "s.y0").read_bytes() == files["s.y0"], "the fragment isn't what it was")
+
+
 def test_kills_elsewhere(place, choose):
     """A run that is killed leaves nothing that stays in the way, also where it writes to another folder or to another disk by links."""
     calls = Calls(place)
@@ -680,7 +754,8 @@ def test_root_in_others_folders(place, choose):
                         ["repair", "--follow-links", store, *words], ["encode", "--follow-links", store, source, *words],
                         ["remove", "--follow-links", store, "s", *words]):
             said = run(*command, status=2)
-            hold(str(folder) in said and "--trust-writers" in said, said)
+            user = OTHER if kind == "owner" else 0
+            hold(f"{folder}: user {user} or others may write there" in said and "--trust-writers" in said, said)
         hold(not lost.exists() and not list(store.glob(".rebuild-store-*")), "something was written where others may write")
         run("repair", store, *words, "--dry-run", status=1)
         run("scrub", store, *words, status=1)
@@ -775,6 +850,28 @@ def test_disks_that_are_gone(place, choose):
         for name in "ab":
             hold(f"disk2/{name}: can't be put in its place" in said, said)
         hold("repaired 2 fragments" in said, said)
+    # A disk that fails is a failed device also if one that is looked at before it or after it is gone.
+    for failing in (2, 7):
+        store = place / f"failing-{failing}"
+        lay_disks(store, choose)
+        for number in (2, 7):
+            shutil.rmtree(store / f"disk{number}")
+        (store / f"disk{failing}").symlink_to(f"disk{failing}")
+        for command in ("scrub", "lost", "list"):
+            said = run(command, store, "--follow-links", *DISKS, status=3)
+            hold(said.count(": what should be in it counts as lost\n") == 2, f"{command}: {said}")
+
+
+def test_descriptions_on_disks_that_are_gone(place, choose):
+    """A description on a disk whose folder isn't there, or is a file, is lost, and no failed device."""
+    store, _, _ = encoded_disks(place, choose)
+    for kind in ("missing", "file"):
+        if kind == "missing":
+            shutil.rmtree(store / "disk2")
+        else:
+            (store / "disk2").write_bytes(b"")
+        for command in ("scrub", "lost"):
+            hold("disk2/note.file: is lost\n" in run(command, store, *DISKS, status=1), f"{kind}: {command} says something else")
 
 
 def test_disks_that_fail(place, choose):
@@ -912,13 +1009,16 @@ def test_lost_and_found(place, choose):
         (folders / name / list(stripe("6-2-2", 1, choose))[int(disk[4:])]).write_bytes(data)
     (folders / "lost+found").mkdir(mode=0o700)
     (folders / "lost+found/x0").write_bytes(b"found")
-    inside = ["--names", "{stripe}/{place}"]
+    # The same below a folder that is a disk.
+    above = place / "above"
+    shutil.copytree(folders, above / "in")
+    inside, below_it = ["--names", "{stripe}/{place}"], ["--names", "in/{stripe}/{place}"]
     for how in ({}, as_user(place) if is_root() else {}):
         for command in ("scrub", "lost", "repair"):
-            for words in ([store, *DISKS], [folders, *inside]):
+            for words in ([store, *DISKS], [folders, *inside], [above, *below_it]):
                 said = run(command, *words, status=0, **how)
                 hold("lost+found" not in said, said)
-        for path in (store, *store.glob("disk*"), folders, folders / "a", folders / "b"):
+        for path in (store, *store.glob("disk*"), folders, folders / "a", folders / "b", above, above / "in", *above.glob("in/?")):
             path.chmod(0o777)
     source = place / "lost+found"
     source.write_bytes(b"source")
@@ -1010,8 +1110,17 @@ def test_descriptions(place, choose):
     copies = [f"disk{number}/note.file" for number in range(10)]
     hold({name for name in whole if name.endswith(".file")} == set(copies), f"{sorted(whole)}")
     hold(all(whole[name] == line for name in copies), "a description isn't the file's")
+    for name in copies:
+        (store / name).chmod(0o640)
+        if is_root():
+            os.chown(store / name, OTHER, -1)
     for command in ("scrub", "lost", "repair"):
         run(command, store, *DISKS, status=0)
+    # Digests may lack that of the first fragment: those of the descriptions make no stripe of their own.
+    sums = (store / "SHA256SUMS").read_text()
+    (store / "SHA256SUMS").write_text("".join(line for line in sums.splitlines(True) if not line.endswith("disk0/note\n")))
+    hold("scrubbed 1 stripe: 0 damaged, 0 lost" in run("scrub", store, *DISKS, status=0), "descriptions are taken for a stripe")
+    (store / "SHA256SUMS").write_text(sums)
     for lost in (["disk3"], [f"disk{number}" for number in (0, 4, 9)]):
         for disk in lost:
             (store / disk / "note").unlink()
@@ -1024,7 +1133,8 @@ def test_descriptions(place, choose):
         said = run("repair", store, *DISKS, status=0)
         hold(f"; {len(lost)} description{'s' * (len(lost) > 1)} made" in said, said)
         hold(below(store) == whole, f"the store isn't what it was: {said}")
-    hold(len({(store / name).stat().st_mode for name in copies}) == 1, "a copy that was made has other rights than the others")
+    about = {(it.st_mode & 0o7777, it.st_uid) for it in (os.stat(store / name) for name in copies)}
+    hold(about == {(0o640, OTHER if is_root() else os.geteuid())}, f"a copy that was made has other rights than the others: {about}")
     # With --to it is made there, and the store stays as it is.
     to = place / "encoded-to"
     (to / "disk3").mkdir(parents=True)
@@ -1116,6 +1226,32 @@ def test_descriptions_that_differ(place, choose):
     hold(sum(path.read_bytes() == other for path in store.glob("disk*/note.file")) == 5, "a description was replaced by a guess")
     ended = subprocess.run([PROGRAM, "read", store, "note", *DISKS[2:]], capture_output=True)
     hold(ended.returncode == 0 and ended.stdout == data, ended.stderr.decode())
+
+
+def test_descriptions_through_a_link(place, choose):
+    """No copy of a description is made in a folder that a link leads to, unless links are followed."""
+    store, _, line = encoded_disks(place, choose)
+    outside = place / "outside-descriptions"
+    (store / "disk3").rename(outside)
+    (store / "disk3").symlink_to(outside)
+    (outside / "note.file").unlink()
+    before = below(outside)
+    said = run("repair", store, *DISKS, status=3)
+    hold("disk3/note.file: " in said and below(outside) == before, f"something was made through a link: {said}")
+    run("repair", store, *DISKS, "--follow-links", status=0)
+    hold(below(outside) == {**before, "note.file": line}, "the description wasn't made")
+
+
+def test_descriptions_that_differ_made_elsewhere(place, choose):
+    """With --to a copy that differs is made in that folder, and what is in the store stays."""
+    store, _, line = encoded_disks(place, choose)
+    to, wrong = place / "to", line.replace(b"1001", b"1002")
+    (to / "disk4").mkdir(parents=True)
+    (store / "disk4/note.file").write_bytes(wrong)
+    before = below(store)
+    said = run("repair", store, *DISKS, "--to", to, "--replace-damaged", status=0)
+    hold(below(to) == {"disk4/note.file": line}, f"{below(to)}: {said}")
+    hold(below(store) == before, f"with --to the store was changed: {said}")
 
 
 def test_descriptions_that_cannot_be_replaced(place, choose):
@@ -1283,6 +1419,10 @@ def test_names_like_descriptions(place, choose):
     (store / "disk2/more.file").unlink()
     run("repair", store, *DISKS, status=0)
     hold(below(store) == files, "a stripe of such a name wasn't repaired")
+    # Digests of its fragments are those of no description of a stripe that isn't there.
+    (store / "SHA256SUMS").write_text("".join(f"{digest(data)}  {name}\n" for name, data in files.items() if "more" in name))
+    said = run("scrub", store, *DISKS, status=0)
+    hold("scrubbed 3 stripes: 0 damaged, 0 lost or contradictory" in said, said)
     source = place / "x.file"
     source.write_bytes(b"source")
     hold("can't have this name" in run("encode", store, source, *DISKS, status=1), "a file was encoded under names of descriptions")
@@ -1569,6 +1709,22 @@ def test_other_parts(place, choose):
         hold(not (store / LEFTOVER).exists() and not lock.exists(), "what was left above the fragments stays")
 
 
+def test_other_parts_of_another_user(place, choose):
+    """The lock of a part keeps out other divisions of a user too who may read it and not write into it."""
+    how = as_user(place)
+    store, lock = place / "shared", place / "shared/.rebuild-store-part-1-of-3"
+    lay(store, choose)
+    store.chmod(0o777)
+    lock.write_bytes(b"")
+    lock.chmod(0o644)
+    with open(lock, "r+b") as held:
+        fcntl.flock(held, fcntl.LOCK_EX)
+        for part in ("1/2", "2/2"):
+            said = run("repair", store, "--part", part, status=1, **how)
+            hold(f"{lock}: another run works in this store" in said, f"parts of two divisions were worked on: {said}")
+    run("repair", store, "--part", "1/2", status=0, **how)
+
+
 def test_wrong_code(place, choose):
     """A code that no stripe is of is refused in the words of encode."""
     for right, wrong in (("6-2-2", "12-2-2"), ("12-2-2", "6-2-2")):
@@ -1722,6 +1878,26 @@ def test_file_that_changes_while_it_is_read(place, choose):
         hold(status == 3 and "changed meanwhile" in said[-200:], f"status {status}: {said[-200:]!r}")
 
 
+def test_what_replaces_a_private_file(place, choose):
+    """Nobody else can read the file that is to replace a private one, however far it is written."""
+    store, source, folder = place / "private-store", place / "private-file", place / "private"
+    source.write_bytes(choose.randbytes(400_000))
+    run("encode", store, source, status=0)
+    folder.mkdir()
+    out = folder / "out"
+    out.write_bytes(b"older")
+    out.chmod(0o600)
+    calls, command = Calls(place), [PROGRAM, "read", store, source.name, "-o", out]
+    kinds = calls.run(command).kinds
+    for kind in ("write", "sync", "rename"):
+        with waiting(calls, place, command, kinds.index(kind) + 1) as go_on:
+            modes = [stat.S_IMODE(path.stat().st_mode) for path in folder.glob(".rebuild-store-*")]
+            hold(modes == [0o600], f"before its first {kind} there are these rights: {[f'{mode:o}' for mode in modes]}")
+            status, said = go_on()
+            hold(status == 0 and out.read_bytes() == source.read_bytes(), f"status {status}: {said}")
+    hold(stat.S_IMODE(out.stat().st_mode) == 0o600, "the file has other rights now")
+
+
 def slow_reads(place, milliseconds):
     """The variables with which each read of a run takes so much longer, as from a slow disk, so that work on small files shows lines."""
     calls, record = Calls(place), place / "record"
@@ -1803,6 +1979,11 @@ def test_line_within_a_file(place, choose):
         hold(status == 0 and len(seen) > 1 and seen == sorted(seen) and min(seen) < max(seen), f"{command}: {status}, {said!r}")
         hold(said.endswith(took), f"{command} left its line: {said!r}")
     hold((place / "read").stat().st_size == size, "the file isn't what it was")
+    # What a link leads to is written as it is, so that the file is tested before it is written: the line goes on while it is read twice.
+    (place / "link").symlink_to(place / "read")
+    said, status = on_terminal("read", store, "f", "-o", place / "link", slow=slow)
+    seen = [float(it) for it in re.findall(line % ("read", "files", re.escape("8.0")), said)]
+    hold(status == 0 and len(seen) > 1 and seen == sorted(seen) and 4 * seen.count(8.0) < len(seen), f"read to a link: {status}, {said!r}")
     said, status = on_terminal("encode", store, "--replace", file, place / "nothere", file, slow=slow)
     refused = r"\x1b\[A\r\x1b\[Krebuild-store: \S+nothere: No such file or directory\r\n(?!\x1b\[A)"
     hold(status == 3 and re.search(refused, said), repr(said))

@@ -32,8 +32,15 @@ impl Listing {
         Ok(())
     }
 
-    /// Notes a link that isn't followed.
+    /// Notes a link that isn't followed: once, though the folders of all disks may be below it.
     pub(crate) fn note_link(&mut self, path: String) -> Result<(), AllocError> {
+        if self
+            .link
+            .as_ref()
+            .is_some_and(|noted| noted.as_str() == path.as_str())
+        {
+            return Ok(());
+        }
         if self.link.is_none() {
             self.link = Some(path);
         }

@@ -4,7 +4,7 @@ use std::alloc::{AllocError, Global};
 use std::fs::{self, File, TryLockError};
 use std::io::{self, ErrorKind, Write};
 use store_faults::{StoreFault, device_fault};
-use store_folder::{Links, Part, is_named, is_of_run, lock_name, open_as, path_in};
+use store_folder::{Links, Part, is_named, is_of_run, lock_name, open_as, open_regular, path_in};
 use store_names::Locking;
 
 /// How often the file of a part's lock is opened anew where another run has removed it meanwhile.
@@ -173,11 +173,17 @@ fn parts_of(path: &str) -> Option<u64> {
     count.parse::<u64>().ok()
 }
 
-/// Whether a run holds a lock. By NFS a file is locked only if it is open for writing.
+/// Whether a run holds a lock. By NFS a file is locked only if it is open for writing, which one of another user may not be.
 fn is_locked(rt: &HostRuntime, path: &str) -> bool {
     let mut options = File::options();
     options.write(true);
-    match open_as(rt, path, Links::NotFollowed, &options) {
+    let opened = match open_as(rt, path, Links::NotFollowed, &options) {
+        Err(error) if error.kind() == ErrorKind::PermissionDenied => {
+            open_regular(rt, path, Links::NotFollowed)
+        }
+        opened => opened,
+    };
+    match opened {
         Ok(opened) => matches!(opened.file.try_lock(), Err(TryLockError::WouldBlock)),
         Err(_) => false,
     }
