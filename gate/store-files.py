@@ -197,9 +197,14 @@ def test_read_to_a_file(place, choose):
     run("read", store, "a", "-o", out, status=0, umask=0o027)
     hold(out.read_bytes() == data and out.stat().st_mode & 0o7777 == 0o640, "a file that is read isn't what it was")
     out.write_bytes(b"older")
+    if os.geteuid() == 0:
+        os.chown(out, 1_234, 5_678)
     out.chmod(0o604)
+    before = out.stat()
     run("read", store, "a", f"--output={out}", status=0)
-    hold(out.read_bytes() == data and out.stat().st_mode & 0o7777 == 0o604, "a file that was there has other rights")
+    now = out.stat()
+    hold(out.read_bytes() == data and (now.st_mode, now.st_uid, now.st_gid) == (before.st_mode, before.st_uid, before.st_gid),
+         f"a file that was there has another owner or other rights: {now}")
     link, behind, fifo = place / "link", place / "behind", place / "fifo"
     behind.write_bytes(b"x" * 200_000)
     link.symlink_to(behind)
@@ -708,6 +713,11 @@ def test_limit_on_length(place, choose):
     hold("ulimit -f" in err and not (place / "out").exists(), err)
     ended = ran("encode", store, "-", "--as", "b", given=data, preexec_fn=limited)
     hold(ended.returncode == 3 and there(store) == files, f"{ended.returncode}: {ended.stderr!r} {sorted(there(store))}")
+    # A description that no fragments fit is not the file's, however long it says that the file is.
+    run("encode", store, source(place, "b", b"short"), status=0)
+    (store / "b.file").write_text((store / "b.file").read_text().replace("5 ", "300000 ", 1))
+    run("read", store, "b", "-o", place / "out", status=0, preexec_fn=limited)
+    hold((place / "out").read_bytes() == b"short", "another file was read")
 
 
 def test_limit_on_other_files(place, choose):
@@ -772,26 +782,38 @@ def test_unmounted_disk(place, choose):
     $p repair $w {store}; echo "repair $?"
     $p repair -n $w {store}; echo "plan $?"
     $p scrub $w {store}; echo "scrub $?"
+    $p lost $w {store} > /dev/null; echo "lost $?"
     $p encode $w {store} {PROGRAM}; echo "encode $?"
     $p repair --to {place}/to $w {store} 2> /dev/null; echo "to $? $(ls -A {place}/to/disk3 | wc -l)"
     echo "left $(ls -A {store}/disk3 | wc -l)"
     $p repair --allow-unmounted $w {store}; echo "allowed $?"
     echo "made $(ls -A {store}/disk3 | wc -l)"
+    $p repair $w {store}; echo "kept $?"
     $p encode --allow-unmounted --as b $w {store} {place}/a; echo "encoded $?"
     umount {store}/disk8; umount {store}/disk9
     $p repair $w {store}; echo "two $? $(ls -A {store}/disk8 {store}/disk9 | grep -c '^[ab]')"
-    for n in 4 5 6 7; do umount {store}/disk$n; done
+    umount {store}/disk6
+    echo "most $($p repair -n $w {store} 2>&1 | grep -c 'no disk is mounted')"
+    umount {store}/disk7
     echo "half $($p repair -n $w {store} 2>&1 | grep -c 'no disk is mounted')"
+    for n in 4 5; do umount {store}/disk$n; done
+    echo "few $($p repair -n $w {store} 2>&1 | grep -c 'no disk is mounted')"
     """
     ended = subprocess.run(["unshare", "--mount", "bash", "-c", script], capture_output=True, text=True, timeout=SECONDS)
     if ended.returncode == 77 or "unshare" in ended.stderr:
         raise Skipped(f"nothing can be mounted here: {ended.stderr.strip()}")
-    kinds = ("repair", "plan", "scrub", "encode", "to", "left", "allowed", "made", "encoded", "two", "half")
+    kinds = ("repair", "plan", "scrub", "lost", "encode", "to", "left", "allowed", "made", "kept", "encoded", "two", "most", "half", "few")
     words = [line for line in ended.stdout.splitlines() if line.split()[0] in kinds]
-    want = ["repair 3", "plan 3", "scrub 1", "encode 1", "to 0 2", "left 0", "allowed 0", "made 2", "encoded 0", "two 3 0", "half 0"]
+    # What is in the folder of such a disk is looked at as elsewhere. Of ten disks four that are not mounted are fewer than the others, and
+    # five are not.
+    want = ["repair 3", "plan 3", "scrub 1", "lost 1", "encode 1", "to 0 2", "left 0", "allowed 0", "made 2", "kept 0", "encoded 0",
+            "two 3 0", "most 4", "half 0", "few 0"]
     hold([line for line in words if not line.startswith(("repaired", "encoded 1 "))] == want, f"{words}: {ended.stdout}{ended.stderr}")
     said = [ended.stderr.count(f"disk{number}: no disk is mounted there") for number in (3, 9)]
-    hold(said == [5, 1], ended.stderr)
+    hold(said == [7, 1], ended.stderr)
+    # Who writes nothing there says no more of it: a scrub and a list of what is lost; but a repair, and a plan of one, do.
+    ends = [ended.stderr.count(f"as are at most others{end}\n") for end in ("", ": nothing is written there without --allow-unmounted")]
+    hold(ends == [2, 3 + 3], ended.stderr)
 
 
 def test_quiet(place, choose):
@@ -823,16 +845,22 @@ def test_what_replacing_would_mend(place, choose):
 
 def test_descriptions_from_digests(place, choose):
     """A description of which no copy is left is made again where the digests determine it, of files of each length of padding."""
+    calls = Calls(place)
+
+    def reads(store):
+        return calls.run([PROGRAM, "scrub", "-j", "1", store]).kinds.count("read")
+
     for length in (0, 1, 5, 6, 7, 6_000, 6_001, 6_005):
         store = place / f"store-{length}"
         data = choose.randbytes(length // 2) + bytes(length - length // 2)
         run("encode", store, source(place, "a", data), status=0)
-        text = (store / "a.file").read_bytes()
+        text, many = (store / "a.file").read_bytes(), reads(store)
         for name in ("a.file", "a.file.copy", "a.x1"):
             (store / name).unlink()
         run("scrub", store, status=1)
-        out, _ = run("repair", "-n", store, status=1)
-        hold(b"2 descriptions can be made" in out, out)
+        hold(reads(store) <= many, "a scrub, which makes no description, reads the fragments once more to know what it said")
+        out, err = run("repair", "-n", store, status=1)
+        hold(b"2 descriptions can be made" in out and err == "", f"{out} {err}")
         if length > 100:
             # Also where a file was cut short.
             os.truncate(store / "a.y1", length // 12)
