@@ -22,9 +22,11 @@ import time
 
 # No compiled copy of the modules is left beside them.
 sys.dont_write_bytecode = True
+import refusals  # noqa: E402
+
 ROOT = pathlib.Path(__file__).resolve().parent.parent
 sys.path.append(str(ROOT / "tools"))
-from store import stripe
+from store import stripe  # noqa: E402
 
 PROGRAM = pathlib.Path(sys.argv[1] if sys.argv[1:] else ROOT / "crates/rebuild_store/out/rebuild_store").resolve()
 # What a file of counters has, in order, while a command runs and at its end.
@@ -120,6 +122,41 @@ def test_counters_at_the_end(place, choose):
     found = counters(file.read_text(), "scrub", str(store))
     check(found["bytes"] == found["bytes_done"] == (10 * many - 2) * length and found["left"] == 2, f"{found}")
     check(found["damaged"] == 0, f"{found}")
+    # What another length shows is left, and no damage, until it is replaced.
+    (store / "a1.y0").write_bytes(b"short")
+    for words, left in (([], 1), (["--replace-damaged"], 0)):
+        run("repair", *words, "--progress", file, store, status=left)
+        found = counters(file.read_text(), "repair", str(store))
+        check((found["damaged"], found["left"], found["status"]) == (0, left, left), f"{words}: {found}")
+        # What is lost of a stripe of files of two lengths counts once it is done.
+        check((found["units"], found["units_done"]) == ((2, 2) if left else (0, 1)), f"{words}: {found}")
+
+
+def test_counters_while_a_run_goes_on(place, choose):
+    """Counters are written every five seconds at most, and say after each stripe how many are done, how many bytes these have and what was
+    found, with digests or without. The run's clock goes on by what it sleeps alone."""
+    store, fifo, library, record = (place / name for name in ("s", "fifo", "skip-sleep.so", "record"))
+    refusals.build(library, "skip-sleep.c", "-shared", "-fPIC")
+    many, length = 5, 1_000
+    all_of_it = make(store, choose, [f"a{k}" for k in range(many)], length)
+    os.mkfifo(fifo)
+    # A repair reads as few as determine what is lost, which has its digest.
+    for command, listed, files, left in (("scrub", (), 9, 1), ("scrub", ("a0.x0",), 9, 1), ("repair", all_of_it, 3, 0)):
+        lines = "".join(f"{hashlib.sha256(all_of_it[name]).hexdigest()}  {name}\n" for name in listed)
+        (store / "SHA256SUMS").write_text(lines) if lines else None
+        record.write_bytes(bytes(8))
+        # Who reads the FIFO has it open for all of the run, in which each stripe takes nine seconds.
+        reader = os.open(fifo, os.O_RDWR | os.O_NONBLOCK)
+        words = [command, "-j", "1", "--rate", files * length // 9, "--progress", fifo, store]
+        run(*words, status=left, env={"LD_PRELOAD": library, "SLEPT_RECORD": record})
+        sets = re.split(r"^(?=rebuild_store_units\{)", os.read(reader, 1 << 16).decode(), flags=re.M)[1:]
+        os.close(reader)
+        found = [counters(text, command, str(store)) for text in sets]
+        check([list(it) for it in found] == [RUNNING] * many + [ENDED], f"{command}: {found}")
+        done = [(it["units_done"], it["bytes_done"], it["left"]) for it in found]
+        check(done == [(k, files * k * length, left * k) for k in (1, 2, 3, 4, 5, 5)], f"{command}, {len(listed)} digests: {done}")
+        check(all(it["units"] == many and it["bytes"] == files * many * length for it in found), f"{command}: {found}")
+        check(all(9 * it["units_done"] <= it["seconds"] <= 9 * it["units_done"] + 2 for it in found), f"{command}: {found}")
 
 
 def test_counters_of_odd_names(place, choose):
@@ -190,6 +227,14 @@ def test_rates(place, choose):
     began = time.monotonic()
     run("scrub", "--rate=4096K", store, status=1)
     check(2.4 <= time.monotonic() - began, "a scrub isn't held back")
+    # While it is stopped it reads nothing, and it doesn't make up for that.
+    process, began = start("scrub", "--rate=8M", "-j", "1", store), time.monotonic()
+    time.sleep(0.2)
+    process.send_signal(signal.SIGSTOP)
+    time.sleep(1)
+    process.send_signal(signal.SIGCONT)
+    process.communicate(timeout=60)
+    check(2.1 <= time.monotonic() - began, "a run that was stopped reads faster then")
 
 
 def part_of(name, parts):
@@ -220,6 +265,7 @@ def test_rows_as_they_are_known(place, choose):
     check(process.returncode == 0, f"status {process.returncode}: {process.stderr.read()}")
     rows = rows_of("".join(line for line, _ in came))
     check(came[0][1] > 1.5, f"the first row came {came[0][1]} s before the end")
+    check(sum(before > 0.5 for _, before in came) > many // 2, f"most rows came at the end: {[before for _, before in came]}")
     check(rows[-1]["outcome"] == "alone" and all(row["outcome"] == "rebuilt" for row in rows[:-1]), f"{rows}")
     of_report = [line.split(",")[:3] for line in report.read_text().splitlines()[1:]]
     check(sorted([row["stripe"], row["place"], row["outcome"]] for row in rows[:-1]) == of_report[:-1], f"{of_report}")
@@ -272,6 +318,8 @@ def test_what_a_kill_leaves(place, choose):
     check(errors == "", f"standard error, which is no terminal, got a line for one: {errors!r}")
     rows = rows_of(said)
     check(0 < len(rows) < many, f"{len(rows)} rows")
+    # Each of the four threads may have made one fragment and not printed its row yet.
+    check(len(rows) + 4 >= len([*store.glob("*.x1")]), f"{len(rows)} rows of what was made")
     for row in rows:
         path = f"{row['stripe']}.{row['place']}"
         check(row["outcome"] == "rebuilt" and (store / path).read_bytes() == all_of_it[path], f"{row}")
@@ -292,7 +340,7 @@ def test_output_that_ends(place, choose):
     for target in ("/dev/full",):
         with open(target, "w") as full:
             done = subprocess.run([PROGRAM, "repair", "--json", store], stdout=full, stderr=subprocess.PIPE, text=True, timeout=60)
-        check(done.returncode == 3 and "No space left on device" in done.stderr, f"{target}: {done.returncode} {done.stderr}")
+        check(done.returncode == 3 and done.stderr.count("No space left on device") == 1, f"{target}: {done.returncode} {done.stderr}")
         check(is_whole(store, all_of_it), "the store isn't whole")
         for path in store.glob("*.x1"):
             path.unlink()
@@ -306,7 +354,7 @@ def test_output_that_ends(place, choose):
         os.close(reader)
         done = subprocess.run([PROGRAM, *words, store], stdout=writer, stderr=subprocess.PIPE, text=True, timeout=60)
         os.close(writer)
-        is_said = "rebuild-store: standard output: Broken pipe" in done.stderr
+        is_said = done.stderr.count("rebuild-store: standard output: Broken pipe\n") == 1
         check(done.returncode == 3 and is_said, f"{words}: {done.returncode}: {done.stderr}")
     check(is_whole(store, all_of_it), "the store isn't whole")
 
