@@ -157,6 +157,8 @@ def test_damage_that_is_known(place, choose):
     found = f"a,b.x0: {DAMAGED}\n"
     last = "scrubbed 1 stripe: 1 damaged, 0 lost or contradictory, 0 stripes without any check\n"
     compare("a scrub", run("scrub", store, "--report", report, status=1), (found + last, ""))
+    out, err = run("scrub", store, "--report", "/dev/full", status=3)
+    compare(f"a scrub without its report: {err}", (out, "/dev/full: the report can't be written: " in err), (found + last, True))
     compare("the report", rows_of(report.read_text()), [("a,b", "x0", "left", DAMAGED)])
     last = "repaired 1 fragment, 1.5 KiB (0 unchecked); damaged: 1: a,b.x0; not possible: 0\n"
     compare("a repair", run("repair", store, "--replace-damaged", "--report", report, status=0), (last, found))
@@ -181,6 +183,9 @@ def test_as_few_as_it_takes(place, choose):
     last = "scrubbed 1 stripe: 1 damaged, 3 lost or contradictory, 1 stripe without any check\n"
     lines = [f"a,b.x0: {DIFFERS}", *(f"a,b.{name}: is lost" for name in SPARE), last.strip()]
     compare("a scrub", sorted(out.splitlines()), sorted(lines))
+    empty = lay(place / "empty", choose, "s", 0, ("x0",))
+    last = "repaired 1 fragment, 0 bytes (1 unchecked: s.x0); damaged: 0; not possible: 0\n"
+    compare("one without bytes", run("repair", empty, status=0), (last, "s.x0: rebuilt unchecked: fragments without bytes show nothing\n"))
 
 
 def test_descriptions(place, choose):
@@ -270,6 +275,27 @@ def test_plan_of_one_fragment(place, choose):
     compare("a dry run after it", run(*words, "--dry-run", status=0), (last, ""))
 
 
+def test_plan_beside_a_stripe_without_a_length(place, choose):
+    """The last line of a dry run counts nothing of a stripe whose files have two lengths, but that it can't be repaired."""
+    store = lay(place / "store", choose, "s", 600, ("x0",))
+    for of, data in stripe("6-2-2", 600, choose).items():
+        (store / f"u.{of}").write_bytes(data[:300] if of in ("x0", "x1", "y0", "p0", "p1") else data)
+    planned = "2 stripes of 6-2-2, 600 bytes; 1 lost in 1; 1 can be rebuilt (1 unchecked), 1 can't; reads 1.7 KiB, writes 600 bytes\n"
+    out, err = run("repair", store, "--reads", "few", "--dry-run", status=1)
+    compare(f"a dry run: {err}", (out, err.startswith("u: its fragments have different lengths")), (planned, True))
+
+
+# How many bytes a fragment has that is rebuilt, and how the last line says it.
+SIZES = {1: "1 byte", 1_023: "1023 bytes", 1_024: "1 KiB", 2_047: "1.9 KiB", 2_048: "2 KiB"}
+
+
+def test_sizes(place, choose):
+    for length, shown in SIZES.items():
+        store = lay(place / str(length), choose, "s", length, ("x0",))
+        last = f"repaired 1 fragment, {shown} (0 unchecked); damaged: 0; not possible: 0\n"
+        compare(f"a fragment of {length} bytes", run("repair", store, status=0), (last, ""))
+
+
 def test_what_is_said_first(place, choose):
     """Of a fragment a dry run says what it says first, and nothing more; it says something of each, and of a stripe as a whole."""
     store, names = lay(place / "store", choose, "s", 600), place / "names"
@@ -300,6 +326,30 @@ def test_what_replacing_would_mend(place, choose):
         (store / f"s.{name}").unlink()
     last = "repaired 3 fragments, 1.7 KiB (0 unchecked); damaged: 1: s.p0; not possible: 1\n"
     compare("without a check", run("repair", store, "--reads", "all", status=1), (last, f"s.p0: {DIFFERS}\n"))
+
+
+def test_digest_of_what_equations_leave_open(place, choose):
+    """A fragment that differs from its digest is replaced if there is a survivor to spare, though two of the others may be damaged as well:
+    a repair that isn't asked to replace it says so, and so do dry runs."""
+    store = lay(place / "store", choose, "s", 600)
+    whole = {path.name: path.read_bytes() for path in store.iterdir()}
+    (store / "SHA256SUMS").write_text(sums_of(store))
+    change(store / "s.y0")
+    words = ["repair", store, "--reads", "all"]
+    last = "repaired 2 fragments, 1.1 KiB (0 unchecked); damaged: 1: s.y0; left without --replace-damaged: 1; not possible: 0\n"
+    for more, status in ((["--dry-run"], 1), (["--dry-run", "--replace-damaged", "--json"], 1), ([], 1), (["--replace-damaged"], 0)):
+        # Six of the seven that are left determine the others.
+        for name in ("x0", "x1"):
+            (store / f"s.{name}").unlink(missing_ok=True)
+        out, err = run(*words, *more, status=status)
+        if "--json" in more:
+            rows = [row[2:] for row in objects_of(out) if row[1] == "y0"]
+            compare("rows of y0", rows, [("would be rebuilt", ""), ("was", DIFFERS)])
+        elif "--dry-run" in more:
+            check("; 2 can be rebuilt (0 unchecked), with --replace-damaged 1, 0 can't; " in out, out)
+        elif not more:
+            compare("a repair", (out, err), (last, f"s.y0: {DIFFERS}\n"))
+    compare("what is repaired", {name: (store / name).read_bytes() for name in whole}, whole)
 
 
 # Names, and how `ls -b` of the GNU coreutils writes their control characters.
@@ -440,6 +490,23 @@ def test_requests(place, choose):
     store = lay(place / "quoted", choose, 'a "b', 4, lost)
     wanted = "".join(OBJECT % target for target in lost), "1 stripe; 2 fragments lost, 0 of them not in the list\n"
     compare("lost as JSON", run("lost", "--json", store, status=1), wanted)
+    # Of a stripe of which nothing is there each fragment is asked for, without a survivor.
+    (place / "names").write_text("gone\n")
+    rows = [json.loads(line) for line in run("lost", "--json", "--stripes", place / "names", store, status=1)[0].splitlines()]
+    rows = [(row["length"], row["survivors"]) for row in rows if row["stripe"] == "gone"]
+    compare("lost of nothing as JSON", rows, [(0, [])] * 10)
+
+
+def test_part_without_stripes(place, choose):
+    """What is said of a part of which no stripe is."""
+    store = lay(place / "store", choose, "s", 600, ("x0",))
+    part = 1 + int.from_bytes(hashlib.sha256(b"s").digest()[:8], "big") % 2
+    words = [store, "--part", f"{3 - part}/2"]
+    last = "0 stripes of 6-2-2, 0 bytes; 0 lost in 0; 0 can be rebuilt (0 unchecked), 0 can't; reads 0 bytes, writes 0 bytes\n"
+    compare("a dry run", run("repair", "--dry-run", *words, status=0), (last, ""))
+    last = "scrubbed 0 stripes: 0 damaged, 0 lost or contradictory, 0 stripes without any check\n"
+    compare("a scrub", run("scrub", *words, status=0), (last, ""))
+    compare("lost", run("lost", *words, status=0), (LIST["6-2-2"], "0 stripes; 0 fragments lost, 0 of them not in the list\n"))
 
 
 def main(program=None, only=""):
