@@ -40,6 +40,7 @@ PART = "error: --part takes I/N, with I from 1 to N\n"
 REFUSED = [
     ("encode s -", "error: - needs a name, --as NAME\n"),
     ("encode s a - --as b", "error: --as and - take one FILE alone\n"),
+    ("lost s\udcff", "error: an argument is not text\n"),
     ("remove s", f"{MISSING}<NAME>...\n\nUsage: rebuild-store remove <STORE> <NAME>...{MORE}"),
     ("", f"error: rebuild-store takes a command{MORE}"),
     ("mix s", f"error: unrecognized subcommand 'mix'\n\nUsage: rebuild-store [COMMAND]{MORE}"),
@@ -64,7 +65,8 @@ REFUSED = [
     ("lost --part 4/3 s", PART),
     ("scrub --part 3 s", PART),
     ("scrub --part a/b s", PART),
-    ("repair --names d{shard}/{stripe} s", "error: names with {shard} need --code\n"),
+    *((f"{line} --names d{{shard}}/{{stripe}}", "error: names with {shard} need --code\n")
+      for line in ("repair s", "lost s", "scrub s", "list s", "remove s a")),
     ("repair --names {stripe} s", "error: the pattern of names needs {stripe} once, and {place} or {shard} once\n"),
     ("encode --names /{stripe}.{place} s f", "error: the pattern of names is no name below the store's folder\n"),
     ("read --names {stripe}{shard} s n",
