@@ -502,9 +502,8 @@ def test_remove(place, choose):
         run("encode", store, source(place, name, choose.randbytes(500)), status=0)
     before = there(store)
     (store / "a.x1.damaged").write_bytes(b"kept")
-    run("remove", store, "nothere", status=1)
-    out, _ = run("remove", store, "a", status=0)
-    hold(out == b"removed 1 file; not removed: 0\n", out)
+    out, err = run("remove", store, "nothere", "a", status=1)
+    hold(out == b"removed 1 file; not removed: 1\n" and "nothere: is no file of the store" in err, f"{out} {err}")
     after = {name: data for name, data in before.items() if name.startswith(("a.x0.", "b."))}
     left = there(store)
     hold(left.pop("a.x1.damaged") == b"kept", "a fragment that was kept is gone")
@@ -707,7 +706,7 @@ def test_limit_on_length(place, choose):
     (store / "a.x0").unlink()
     files = there(store)
     _, err = run("repair", store, status=1, preexec_fn=limited)
-    hold("ulimit -f" in err and there(store) == files, err)
+    hold("a: would have 50000 bytes, and no file may get more than 20480 here: ulimit -f" in err and there(store) == files, err)
     run("repair", "--dry-run", store, status=1, preexec_fn=limited)
     _, err = run("read", store, "a", "-o", place / "out", status=1, preexec_fn=limited)
     hold("ulimit -f" in err and not (place / "out").exists(), err)
@@ -751,6 +750,11 @@ def test_limit_on_other_files(place, choose):
         _, err = run("scrub", store, "--report", report, status=3, preexec_fn=limited)
         hold(f"{report}: the report can't be written: {said}" in err, err)
         hold((report.read_text() if report.exists() else None) == older, "a part of a report was written")
+    # The same of a file that a link leads to.
+    (place / "link").symlink_to(place / "behind")
+    (place / "behind").write_text("older")
+    _, err = run("scrub", store, "--report", place / "link", status=3, preexec_fn=limited)
+    hold(f"{place / 'link'}: the report can't be written: {said}" in err and (place / "behind").read_text() == "older", err)
     _, err = run("scrub", store, "--report", "/dev/null", status=1, preexec_fn=limited)
     for words in (["scrub", store, "--json"], ["read", store, "a"]):
         with open(place / "output", "wb") as output:
@@ -885,6 +889,10 @@ def test_long_names(place, choose):
     files = there(store)
     _, err = run("repair", "--replace-damaged", store, status=3)
     hold("its folder takes no name as long as that of a fragment which is kept" in err and there(store) == files, err)
+    # Nothing has a name that no folder takes.
+    for command, more in (("read", []), ("read", ["-o", place / "out"]), ("verify", [])):
+        _, err = run(command, store, "n" * 300, *more, status=1)
+        hold("is no file of the store" in err and "too long" not in err, f"{command}: {err}")
 
 
 def main(program=None, only=""):
