@@ -291,12 +291,13 @@ def try_encode(kind, one, other, choose):
     shutil.rmtree(one / "files", ignore_errors=True)
     run("encode", one / "files", source, status=0)
     check(not runs_there(one / "files"), f"a lock is left: {runs_there(one / 'files')}")
-    lock = one / "files" / f"{PREFIX}part-1-of-1"
-    lock.write_text("4711@beta\n")
-    run("verify", other / "files", status=0)
-    said = run("encode", other / "files", source, "--replace", status=1 if kind in UNKNOWN else 0)
-    check((MAYBE in said) == (kind in UNKNOWN), said)
-    lock.unlink(missing_ok=True)
+    for part in ("1-of-1", "2-of-3"):
+        lock = one / "files" / f"{PREFIX}part-{part}"
+        lock.write_text("4711@beta\n")
+        run("verify", other / "files", status=0)
+        said = run("encode", other / "files", source, "--replace", status=1 if kind in UNKNOWN else 0)
+        check((MAYBE in said) == (kind in UNKNOWN), f"{part}: {said}")
+        lock.unlink(missing_ok=True)
     run("encode", other / "files", source, "--replace", status=0)
     run("remove", other / "files", "source", status=0)
     check(not runs_there(one / "files"), f"a lock is left: {runs_there(one / 'files')}")
