@@ -10,6 +10,7 @@ import contextlib
 import errno
 import fcntl
 import hashlib
+import json
 import os
 import pathlib
 import pty
@@ -27,6 +28,8 @@ import time
 
 # No compiled copy of the modules is left beside them.
 sys.dont_write_bytecode = True
+import refusals  # noqa: E402
+
 ROOT = pathlib.Path(__file__).resolve().parent.parent
 sys.path.append(str(ROOT / "tools"))
 from faults import RECORD_SIZE, Calls  # noqa: E402
@@ -38,6 +41,8 @@ LEFTOVER = ".rebuild-store-0123456789abcdef"
 LEFTOVER_OF_PART = ".rebuild-store-2-3-0123456789abcdef"
 LOCK_OF_PART = ".rebuild-store-part-1-of-2"
 HEADER = "stripe,place,outcome,detail\n"
+# F_SETPIPE_SZ, which fcntl of Python 3.9 has not.
+SET_PIPE_SIZE = 1_031
 USER, OTHER = 65_534, 1_234
 SECONDS = 60
 passed, skipped, faults = 0, [], []
@@ -169,6 +174,36 @@ def test_report_keeps_rights(place, choose):
         report.chmod(0o666)
         run("scrub", store, "--report", report, status=0, **as_user(place))
         hold(report.read_text() == HEADER, report.read_text())
+        # Where he may make one, and not give it to the report's owner, it is written as it is too.
+        (place / "open").mkdir()
+        (place / "open").chmod(0o777)
+        report = place / "open/report.csv"
+        report.write_text("old" * 100)
+        report.chmod(0o666)
+        os.chown(report, OTHER, OTHER)
+        run("scrub", store, "--report", report, status=0, **as_user(place))
+        about = report.stat()
+        hold((about.st_uid, about.st_mode & 0o7777) == (OTHER, 0o666), f"a report has owner {about.st_uid}, mode {about.st_mode:o} now")
+        hold(there(place / "open") == {report.name: HEADER.encode()}, f"{there(place / 'open')}")
+
+
+def test_report_while_it_is_made(place, choose):
+    """What is to take the place of a report that nobody else may read can't be read by others before, and what comes at a report's path
+    meanwhile is written as it is."""
+    store, reports = place / "making", place / "making-reports"
+    lay(store, choose)
+    reports.mkdir()
+    report, calls = reports / "report.csv", Calls(place)
+    command = [PROGRAM, "scrub", store, "--report", report]
+    link = calls.run(command).kinds.index("link") + 1
+    report.unlink()
+    ran = calls.run(command, link, "meanwhile")
+    hold(ran.status == 0 and there(reports) == {report.name: HEADER.encode()}, f"{there(reports)}: {ran.text()}")
+    report.chmod(0o600)
+    kinds = calls.run(command).kinds
+    ran = calls.run(command, len(kinds) - kinds[::-1].index("write"), "kill")
+    left = [path.stat().st_mode & 0o7777 for path in reports.iterdir() if path != report]
+    hold(ran.status == -signal.SIGKILL and left == [0o600], f"an unfinished report has the rights {[f'{mode:o}' for mode in left]}")
 
 
 def test_report_in_the_store(place, choose):
@@ -324,6 +359,11 @@ def test_links(place, choose):
     hold((outside / "deep down/the end").read_bytes() == files["b.p1"], "links weren't followed to their end")
     hold((outside / "next").is_symlink(), "a link was replaced")
     hold((store / "b.p1").read_bytes() == files["b.p1"] and not (store / "deep down").exists(), "it lies elsewhere")
+    # An encoding says it too.
+    source = place / "beside-links"
+    source.write_bytes(b"source")
+    said = run("encode", store, source, status=0)
+    hold("and others are links, 3 in all, and aren't followed without --follow-links\n" in said, said)
 
 
 def test_linked_fragments_of_a_file(place, choose):
@@ -367,6 +407,15 @@ def test_linked_folders(place, choose):
     hold(there(outside) == {"note": list(data.values())[3]}, "a link wasn't followed")
     run("scrub", store, *names, status=1)
     run("scrub", store, *names, "--follow-links", status=0)
+    # Where links are followed the folder is one of those that are written into.
+    if is_root():
+        outside.chmod(0o777)
+        for command in (["encode", store, source], ["repair", store]):
+            hold("--trust-writers" in run(*command, *names, "--follow-links", status=2), f"root ran {command[0]} where others may write")
+        outside.chmod(0o755)
+    run("encode", store, source, *names, "--follow-links", status=0)
+    line = f"6 {hashlib.sha256(b'source').hexdigest()} 6-2-2\n".encode()
+    hold(there(outside) == {"note": list(data.values())[3], "source": b"r", "source.file": line}, f"{there(outside)}")
 
 
 def test_links_above_folders(place, choose):
@@ -542,6 +591,19 @@ def test_locks_of_refused_runs(place, choose):
     for part in ("1/2", "2/2"):
         run("repair", store, "--part", part, status=0)
     hold(there(store) == files, "the store isn't what it was")
+
+
+def test_lock_that_cannot_be_given_back(place, choose):
+    """A run that can't take its part's lock away at its end says so, with the status of a device, and the next run of the part does."""
+    store = place / "kept-lock"
+    lay(store, choose)
+    calls, lock = Calls(place), store / ".rebuild-store-part-1-of-1"
+    command = [PROGRAM, "repair", store, "--part", "1/1"]
+    ran = calls.run(command, calls.run(command).kinds.index("unlink") + 1, errno.EIO)
+    hold(ran.status == 3 and f"rebuild-store: {store}: Input/output error\n" in ran.err, ran.text())
+    hold(ran.paths == (str(lock),) and lock.exists() and ran.out.startswith("repaired 0 fragments, "), ran.text())
+    run(*command[1:], status=0)
+    hold(not lock.exists(), "a lock stays")
 
 
 @contextlib.contextmanager
@@ -898,6 +960,12 @@ def test_disks_that_fail(place, choose):
         hold(ran.err.count(f"rebuild-store: {bad}: Input/output error") == 1, ran.text())
         tried += 1
     hold(tried > 0, f"no disk's listing was tried: {ran.kinds}")
+    # Nothing else is lost: other commands say that a device failed, too.
+    for words in (["lost"], ["scrub", "--workers", "1"], ["list"]):
+        command = [PROGRAM, *words, store, *DISKS]
+        for number in [number for number, kind in enumerate(calls.run(command).kinds, 1) if kind == "list"]:
+            ran = calls.run(command, number, errno.EIO)
+            hold(ran.status == 3 and ran.err.count(f"{ran.paths[0]}: Input/output error") == 1, f"{words}: {ran.text()}")
 
 
 def test_files_that_may_not_be_read(place, choose):
@@ -1167,6 +1235,8 @@ def test_descriptions_that_differ(place, choose):
         run("repair", store, *DISKS, "--report", report, status=1)
         hold("disk4/note.file: " in report.read_text(), report.read_text())
         hold((store / "disk4/note.file").read_bytes() == wrong, "a copy was replaced unasked")
+        said = run("repair", store, *DISKS, "--dry-run", "--replace-damaged", status=1)
+        hold(", 0 can't; " in said and said.endswith("; 1 description can be made\n") and "disk4/" not in said, said)
         ended = subprocess.run([PROGRAM, "read", store, "note", *DISKS[2:]], capture_output=True)
         hold(ended.returncode == 0 and ended.stdout == data, ended.stderr.decode())
         run("repair", store, *DISKS, "--replace-damaged", status=0)
@@ -1452,8 +1522,12 @@ def test_stripe_that_changes_meanwhile(place, choose):
                 path.write_bytes(before[path.name[2:]])
             with waiting(calls, place, command, number) as go_on:
                 for path in store.glob("s.*"):
+                    about = path.stat()
                     with open(path, "r+b") as fragment:
                         fragment.write(after[path.name[2:]])
+                    # Also where the files get the times that they had: the system notes when that was.
+                    if number == reads[-1]:
+                        os.utime(path, ns=(about.st_atime_ns, about.st_mtime_ns))
                 status, said = go_on()
             if "few" in command:
                 # All are read instead, which by then are those of the new stripe.
@@ -1466,6 +1540,57 @@ def test_stripe_that_changes_meanwhile(place, choose):
             hold(not left, f"left {left}")
     run("repair", store, status=0)
     hold((store / "s.x1").read_bytes() == after["x1"], "what was rebuilt isn't of the new stripe")
+
+
+def test_counters_of_a_run_without_memory(place, choose):
+    """The counters of a run that is refused memory at some moment say the status with which it ends, if they can be written."""
+    store, counters, ends = place / "starved", place / "starved-counters", set()
+    lay(store, choose)
+    library = refusals.Library(place)
+    words = [str(it) for it in (PROGRAM, "scrub", "--workers", 1, "--progress", counters, store)]
+    for number in range(1, library.run(words).allocations + 1, 5):
+        counters.unlink(missing_ok=True)
+        ran = library.run(words, refusal=refusals.Refusal(allocation=number))
+        if counters.exists():
+            said = re.findall(r"^rebuild_store_status\{.*\} (\d)$", counters.read_text(), re.M)
+            hold(said == [str(ran.status)], f"allocation {number}: the counters say {said}: {ran.text()}")
+            ends.add(ran.status)
+    hold(4 in ends, f"runs ended with {ends}")
+
+
+def test_rows_that_nobody_reads_yet(place, choose):
+    """While standard output takes no more one thread waits for it, the others go on, and no row is lost."""
+    store, names = place / "unread", [f"a{number:03}" for number in range(120)]
+    files = lay(store, choose, names=names, length=4)
+    for name in names:
+        (store / f"{name}.x1").unlink()
+    reader, writer = os.pipe()
+    # The rows have more bytes than the pipe takes.
+    fcntl.fcntl(writer, SET_PIPE_SIZE, 4_096)
+    process = subprocess.Popen([PROGRAM, "repair", "--json", store], stdout=writer, stderr=subprocess.DEVNULL)
+    os.close(writer)
+    until = time.monotonic() + SECONDS
+    while len([*store.glob("*.x1")]) < len(names) and time.monotonic() < until:
+        time.sleep(0.05)
+    time.sleep(0.2)
+    with open(reader) as output:
+        rows = sorted((row["stripe"], row["outcome"]) for row in map(json.loads, output))
+    hold(rows == [(name, "rebuilt") for name in names], f"{len(rows)} rows of {len(names)}")
+    hold(process.wait(timeout=SECONDS) == 0 and there(store) == files, "the store isn't what it was")
+
+
+def test_order_by_what_is_in_the_way(place, choose):
+    """What is in the way of a fragment is lost, too, where stripes that have lost most come first: folders, and links to nothing."""
+    store = place / "in-the-way"
+    lay(store, choose, names=("a", "b", "c"))
+    for name in ("a.x0", "b.x0", "b.x1", "c.x0", "c.x1", "c.y0"):
+        (store / name).unlink()
+    (store / "b.x0").mkdir()
+    for name in ("c.x0", "c.x1", "c.y0"):
+        (store / name).symlink_to("nowhere")
+    said = run("repair", store, "--json", "--workers", 1, "--code", "6-2-2", status=1)
+    found = [json.loads(line)["stripe"] for line in said.splitlines() if line.startswith("{")]
+    hold(found == ["c", "c", "c", "b", "b", "a"], f"stripes come in this order: {found}")
 
 
 def test_fragment_that_comes_meanwhile(place, choose):
@@ -1926,20 +2051,33 @@ def on_terminal(*words, slow, killed=False):
         return said.decode(), process.wait(timeout=SECONDS)
 
 
+def hold_counted(said, size):
+    """Each line on a terminal has the bytes of the units that it says are done, and of a part of the next one at most. Each unit has so
+    many MiB, and tenths of one are shown."""
+    seen = [(int(done), float(amount)) for done, amount in re.findall(r": (\d+)/\d+ \w+  ([\d.]+)/", said)]
+    hold(all(done * size - 0.1 <= amount <= (done + 1) * size + 0.1 for done, amount in seen), f"other bytes than units: {seen}")
+    hold(len({done for done, _ in seen}) > 2 and seen == sorted(seen), f"what is done: {seen}")
+
+
+def lay_zeros(store, names, size):
+    """A store of stripes of zeros, each of which is a stripe; those of sparse files take no room."""
+    store.mkdir()
+    for name in names:
+        for shard in ("x0", "x1", "x2", "y0", "y1", "y2", "px", "py", "p0", "p1"):
+            with open(store / f"{name}.{shard}", "wb") as file:
+                file.truncate(size)
+
+
 def test_line_on_a_terminal(place, choose):
     """A repair and a scrub show how far they are on a line that is written anew in its place, and that ends if the run is killed."""
     store = place / "zeros"
-    store.mkdir()
     names, size, slow = [f"s{number}" for number in range(80)], 2**17, slow_reads(place, 3)
-    for name in names:
-        for shard in ("x0", "x1", "x2", "y0", "y1", "y2", "px", "py", "p0", "p1"):
-            # Zeros are a stripe, and those of a sparse file take no room.
-            with open(store / f"{name}.{shard}", "wb") as file:
-                file.truncate(size)
+    lay_zeros(store, names, size)
     line = r"(?:\x1b\[A)?\r\x1b\[K\x1b\[\?7l%s: \d+/%d %s  [\d.]+/%s MiB  \d+ MiB/s  \d+:\d\d left  0 damaged, 0 %s\x1b\[\?7h\r\n"
     scrub = line % ("scrub", len(names), "stripes", re.escape("100.0"), "lost")
     said, status = on_terminal("scrub", store, "--workers", 1, slow=slow)
     hold(status == 0 and re.fullmatch(f"(?:{scrub})+\x1b\\[A\r\x1b\\[K", said), f"status {status}: {said!r}")
+    hold_counted(said, 10 / 8)
     said, status = on_terminal("scrub", store, "--workers", 1, slow=slow, killed=True)
     hold(status == -signal.SIGTERM and re.fullmatch(f"(?:{scrub})+", said), f"status {status}: {said!r}")
     for name in names:
@@ -1947,6 +2085,21 @@ def test_line_on_a_terminal(place, choose):
     repair = line % ("repair", len(names), "fragments", re.escape("90.0"), "given up")
     said, status = on_terminal("repair", store, "--reads", "all", "--workers", 1, slow=slow)
     hold(status == 0 and re.fullmatch(f"(?:{repair})+\x1b\\[A\r\x1b\\[K", said), f"status {status}: {said!r}")
+    hold_counted(said, 9 / 8)
+
+
+def test_numbers_on_a_terminal(place, _choose):
+    """By a clock that goes on by what is slept alone as many bytes a second are read as the limit says, and the line says so and how long
+    the rest takes."""
+    store, library, record = place / "timed", place / "skip-sleep.so", place / "slept"
+    lay_zeros(store, [f"s{number}" for number in range(80)], 2**17)
+    refusals.build(library, "skip-sleep.c", "-shared", "-fPIC")
+    record.write_bytes(bytes(8))
+    clock = {"LD_PRELOAD": str(library), "SLEPT_RECORD": str(record)}
+    said, status = on_terminal("scrub", store, "--workers", 1, "--rate", "4M", slow=clock)
+    lines = [[float(it) for it in line] for line in re.findall(r"  ([\d.]+)/100.0 MiB  (\d+) MiB/s  (\d+):(\d\d) left", said)]
+    hold(status == 0 and len(lines) > 100 and all(speed in (3, 4) for _, speed, _, _ in lines), f"status {status}: {said!r}")
+    hold(all(abs((100 - done) / 4 - 60 * minutes - seconds) <= 1.1 for done, _, minutes, seconds in lines), f"{lines}")
 
 
 def test_line_of_files(place, choose):
@@ -1960,8 +2113,17 @@ def test_line_of_files(place, choose):
     line = r"(?:\x1b\[A)?\r\x1b\[K\x1b\[\?7lencode: \d/4 files  [\d.]+/4.0 MiB  \d+ MiB/s  \d+:\d\d left\x1b\[\?7h\r\n"
     said, status = on_terminal("encode", store, *sources, slow=slow)
     hold(status == 0 and re.fullmatch(f"(?:{line})+\x1b\\[A\r\x1b\\[K", said), f"status {status}: {said!r}")
+    hold_counted(said, 1)
+    said, status = on_terminal("verify", store, slow=slow_reads(place, 15))
+    hold(status == 0 and "verify: " in said, f"status {status}: {said!r}")
+    hold_counted(said, 1)
     for command, words in (("encode", sources), ("scrub", []), ("verify", []), ("read", ["f0", "-o", place / "read"])):
         hold(on_terminal(command, store, *words, "-q", slow=slow) == ("", 0), f"{command} -q shows a line")
+
+
+def hold_even(seen, whole):
+    """The MiB that lines say are done of one unit come near to all of them, and aren't all long before the end."""
+    hold(any(0.7 * whole < it < whole for it in seen) and seen.count(whole) <= len(seen) // 3, f"of {whole}: {seen}")
 
 
 def test_line_within_a_file(place, choose):
@@ -1978,6 +2140,7 @@ def test_line_within_a_file(place, choose):
         seen = [float(it) for it in re.findall(line % (command, unit, re.escape(all_of_it)), said)]
         hold(status == 0 and len(seen) > 1 and seen == sorted(seen) and min(seen) < max(seen), f"{command}: {status}, {said!r}")
         hold(said.endswith(took), f"{command} left its line: {said!r}")
+        hold_even(seen, 8)
     hold((place / "read").stat().st_size == size, "the file isn't what it was")
     # What a link leads to is written as it is, so that the file is tested before it is written: the line goes on while it is read twice.
     (place / "link").symlink_to(place / "read")
@@ -1993,11 +2156,7 @@ def test_line_within_a_stripe(place, choose):
     """A repair and a scrub of one long stripe show how far they are in it, also where its fragments are held to digests."""
     bare, store, file, size = place / "bare", place / "store", place / "f", 6 * 2**20
     slow = slow_reads(place, 6)
-    bare.mkdir()
-    for shard in ("x0", "x1", "x2", "y0", "y1", "y2", "px", "py", "p0", "p1"):
-        # Zeros are a stripe, and those of a sparse file take no room.
-        with open(bare / f"s.{shard}", "wb") as fragment:
-            fragment.truncate(size)
+    lay_zeros(bare, ["s"], size)
     with open(file, "wb") as long:
         long.truncate(2 * size)
     run("encode", store, file, status=0)
@@ -2014,6 +2173,7 @@ def test_line_within_a_stripe(place, choose):
             hold(status == 0 and len({it for it in seen if 0 < it < all_of_it}) > 1 and seen == sorted(seen),
                  f"{command} {fragment.name}: status {status}, {said!r}")
             hold(said.endswith("\x1b[A\r\x1b[K"), f"{command} left its line: {said!r}")
+            hold_even(seen, all_of_it)
             # The speed is cut to whole ones, so that one below 1 says nothing about the time.
             for done, speed, minutes, seconds in re.findall(r"([\d.]+)/[\d.]+ MiB  ([1-9]\d*) MiB/s  (\d+):(\d\d) left", said):
                 rest, shown = all_of_it - float(done), int(minutes) * 60 + int(seconds)
