@@ -1004,8 +1004,13 @@ def test_files_that_may_not_be_read(place, choose):
     to = place / "readable-to"
     to.mkdir(mode=0o755)
     os.chown(to, USER, USER)
-    said = run("repair", store, "--reads", "all", "--to", to, status=3, **how)
+    counters = place / "readable-counters"
+    counters.write_bytes(b"")
+    counters.chmod(0o666)
+    said = run("repair", store, "--reads", "all", "--to", to, "--progress", counters, status=3, **how)
     hold("a.y2: can't be read: Permission denied\n" in said, said)
+    # What is left are the five fragments of b, which have another length.
+    hold(re.findall(r"^rebuild_store_left\{.*\} (\d+)$", counters.read_text(), re.M) == ["5"], counters.read_text())
     hold((to / "a.y2").read_bytes() == (store / "a.y2").read_bytes(), f"what couldn't be read wasn't rebuilt: {said}")
     for path in store.glob("a.*"):
         path.chmod(0)
@@ -2105,7 +2110,7 @@ def test_numbers_on_a_terminal(place, _choose):
 def test_line_of_files(place, choose):
     """An encoding shows how many files are done; with -q there is no line."""
     store, sources, size = place / "files", [place / f"f{number}" for number in range(4)], 2**20
-    slow = slow_reads(place, 40)
+    slow = slow_reads(place, 20)
     store.mkdir()
     for source in sources:
         with open(source, "wb") as file:
