@@ -2095,7 +2095,7 @@ def test_line_on_a_terminal(place, choose):
 
 def test_numbers_on_a_terminal(place, _choose):
     """By a clock that goes on by what is slept alone as many bytes a second are read as the limit says, and the line says so and how long
-    the rest takes."""
+    the rest takes. Also of 160 GiB the MiB are exact."""
     store, library, record = place / "timed", place / "skip-sleep.so", place / "slept"
     lay_zeros(store, [f"s{number}" for number in range(80)], 2**17)
     refusals.build(library, "skip-sleep.c", "-shared", "-fPIC")
@@ -2105,6 +2105,9 @@ def test_numbers_on_a_terminal(place, _choose):
     lines = [[float(it) for it in line] for line in re.findall(r"  ([\d.]+)/100.0 MiB  (\d+) MiB/s  (\d+):(\d\d) left", said)]
     hold(status == 0 and len(lines) > 100 and all(speed in (3, 4) for _, speed, _, _ in lines), f"status {status}: {said!r}")
     hold(all(abs((100 - done) / 4 - 60 * minutes - seconds) <= 1.1 for done, _, minutes, seconds in lines), f"{lines}")
+    lay_zeros(place / "long-zeros", ["s"], 2**34)
+    said, status = on_terminal("scrub", place / "long-zeros", "--workers", 1, slow=slow_reads(place, 3), killed=True)
+    hold(status == -signal.SIGTERM and "/163840.0 MiB  " in said, f"status {status}: {said!r}")
 
 
 def test_line_of_files(place, choose):

@@ -286,6 +286,6 @@ impl Progress {
 
 /// Bytes as MiB and tenths of one.
 fn tenths_of(bytes: u64) -> (u64, u64) {
-    let tenths = bytes / (MIB / 10);
+    let tenths = bytes.saturating_mul(10) / MIB;
     (tenths / 10, tenths % 10)
 }
