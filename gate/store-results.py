@@ -382,6 +382,10 @@ def test_control_characters(place, choose):
             lost = [f"{shown}.{of}: is lost" for of in ("x2", "y0", "y2", "px", "py", "p0", "p1")]
             out, _ = run("scrub", store, status=1)
             compare(f"scrub of the files of {name!r}", sorted(line for line in out.splitlines() if line.endswith("is lost")), sorted(lost))
+            rows = [json.loads(line)["name"] for line in run("list", "--json", store, status=0)[0].split("\n")[:-1]]
+            compare(f"list of {name!r} as JSON", sorted(rows), sorted(["other", name]))
+            rows = {json.loads(line)["stripe"] for line in run("lost", "--json", store, status=1)[0].split("\n")[:-1]}
+            compare(f"lost of {name!r} as JSON", rows, {name})
 
 
 # Numbers of errors, and what strerror of the C library says of them.

@@ -33,7 +33,13 @@ fn list_files(
     for stripe in &stripes {
         let file = file_of(rt, store, &site, stripe)?;
         broken = broken.saturating_add(u64::from(file.state != FileState::Whole));
-        if let Err(error) = write(rt, file_line(alloc, &file, form)) {
+        let line = file_line(alloc, &file, form)?;
+        // An object has escapes of its own.
+        let written = match form {
+            Rows::Csv => write(rt, Ok(line)),
+            Rows::Json => println!(rt; "{line}"),
+        };
+        if let Err(error) = written {
             return Err(device(alloc, "standard output", error));
         }
     }
