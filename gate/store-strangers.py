@@ -2136,20 +2136,23 @@ def hold_even(seen, whole):
 
 def test_line_within_a_file(place, choose):
     """A command over one long file shows how far it is in it, and no line that it says is written over."""
-    store, file, size, slow = place / "long", place / "f", 8 * 2**20, slow_reads(place, 20)
+    store, file, size, slow = place / "long", place / "f", 8 * 2**20, slow_reads(place, 10)
     with open(file, "wb") as long:
         long.truncate(size)
     line = r"(?:\x1b\[A)?\r\x1b\[K\x1b\[\?7l%s: 0/1 %s  ([\d.]+)/%s MiB  \d+ MiB/s  \d+:\d\d left[^\n]*\x1b\[\?7h\r\n"
     took = "\x1b[A\r\x1b[K"
+    # What is written into a FIFO is read before, too, and held to its digest.
+    os.mkfifo(place / "fifo")
+    reader = subprocess.Popen(["timeout", str(SECONDS), "cat", place / "fifo"], stdout=subprocess.DEVNULL)
     commands = [("encode", "files", "8.0", [store, file]), ("verify", "files", "8.0", [store]),
-                ("read", "files", "8.0", [store, "f", "-o", place / "read"])]
+                ("read", "files", "8.0", [store, "f", "-o", place / "read"]), ("read", "files", "8.0", [store, "f", "-o", place / "fifo"])]
     for command, unit, all_of_it, words in commands:
         said, status = on_terminal(command, *words, slow=slow)
         seen = [float(it) for it in re.findall(line % (command, unit, re.escape(all_of_it)), said)]
         hold(status == 0 and len(seen) > 1 and seen == sorted(seen) and min(seen) < max(seen), f"{command}: {status}, {said!r}")
         hold(said.endswith(took), f"{command} left its line: {said!r}")
         hold_even(seen, 8)
-    hold((place / "read").stat().st_size == size, "the file isn't what it was")
+    hold((place / "read").stat().st_size == size and reader.wait(SECONDS) == 0, "the file isn't what it was")
     # What a link leads to is written as it is, so that the file is tested before it is written: the line goes on while it is read twice.
     (place / "link").symlink_to(place / "read")
     said, status = on_terminal("read", store, "f", "-o", place / "link", slow=slow)
@@ -2187,6 +2190,11 @@ def test_line_within_a_stripe(place, choose):
                 rest, shown = all_of_it - float(done), int(minutes) * 60 + int(seconds)
                 hold(rest / (int(speed) + 1) - 2 <= shown <= rest / int(speed) + 2, f"{command} says another time: {said!r}")
         fragment.unlink()
+    # By itself a repair reads as few as determine what is lost, each once, since there are digests.
+    said, status = on_terminal("repair", store, slow=slow_reads(place, 20))
+    seen = [float(it) for it in re.findall(line % ("repair", "fragments", r"6\.0", "given up"), said)]
+    hold(status == 0 and seen == sorted(seen), f"status {status}: {said!r}")
+    hold_even(seen, 6)
 
 
 def main(program=None, only=""):
