@@ -15,6 +15,7 @@ import os
 import pathlib
 import random
 import re
+import shutil
 import subprocess
 import sys
 import tempfile
@@ -280,6 +281,17 @@ def test_another_folder_of_disks(folder, code, choose):
     for option in ("--report", "--progress"):
         _, errors = run("repair", store, *names, "--to", other, option, other / "y0/b", status=2)
         check("is a file of the store, and no place for a report" in errors and not (other / "y0/b").exists(), errors)
+    # A disk of the store may be gone. A link is none of the other folder's disks, and isn't written through.
+    outside = folder / "outside"
+    outside.mkdir()
+    (other / "y0").rmdir()
+    (other / "y0").symlink_to(outside)
+    shutil.rmtree(store / "x1")
+    _, errors = run("repair", store, *names, "--to", other, status=3)
+    check("y0/b: can't be put in its place: its folder is a link, and links aren't followed" in errors, errors)
+    check(not list(outside.iterdir()), "a fragment was written through a link")
+    there = {path.name: path.read_bytes() for path in (other / "x1").iterdir()}
+    check(there == {name: stripes[name]["x1"] for name in "ab"}, f"a disk that is gone wasn't rebuilt elsewhere: {errors}")
 
 
 def sums_of(folder):
