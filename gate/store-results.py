@@ -273,6 +273,14 @@ def test_plan_of_one_fragment(place, choose):
     compare("a repair", run(*words, status=0), (repaired, ""))
     last = "1 stripe of 6-2-2, 2 KiB; 0 lost in 0; 0 can be rebuilt (0 unchecked), 0 can't; reads 0 bytes, writes 0 bytes\n"
     compare("a dry run after it", run(*words, "--dry-run", status=0), (last, ""))
+    # With digests both open as few by themselves, and say nothing of damage elsewhere.
+    (store / "SHA256SUMS").write_text(sums_of(store))
+    (store / "s.x0").unlink()
+    change(store / "s.y1")
+    planned = "1 stripe of 6-2-2, 2 KiB; 1 lost in 1; 1 can be rebuilt (0 unchecked), 0 can't; reads 6 KiB, writes 2 KiB\n"
+    compare("a dry run with digests", run("repair", store, "--dry-run", status=1), (planned, ""))
+    repaired = "repaired 1 fragment, 2 KiB (0 unchecked); damaged: 0; not possible: 0\n"
+    compare("a repair with digests", run("repair", store, status=0), (repaired, ""))
 
 
 def test_plan_beside_a_stripe_without_a_length(place, choose):
