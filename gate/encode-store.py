@@ -305,6 +305,11 @@ def test_names(folder, code, choose):
         check(output == data and f"disk0/{source.name}: left out" in errors, errors)
         run("repair", store, "--code", code, *names, status=0)
         check((store / f"disk0/{source.name}").read_bytes() == wanted[f"disk0/{source.name}"], "a shard isn't what it was")
+        # The last disk's copy of the description is enough.
+        for number in range(len(order) - 1):
+            (store / f"disk{number}/{source.name}.file").unlink()
+        output, errors = run("read", store, source.name, *names, status=0, text=False)
+        check(output == data and not errors, errors)
     # A folder that is there may have a file of another name, also one that is no text.
     other = folder.with_name(folder.name + "-odd")
     other.mkdir()
@@ -340,6 +345,9 @@ def test_refusals(folder, code, choose):
         check(line in errors, errors)
     files["good"] = b"good"
     check(is_store(folder, code, files), "a good file wasn't encoded beside others")
+    for name in (".", "..", "lost+found", leftover.name):
+        _, errors = run("encode", folder, other / "good", "--as", name, "--code", code, status=1)
+        check(f"{name}: a stripe can't have this name" in errors and is_store(folder, code, files), errors)
     sums = folder / "SHA256SUMS"
     listed = sums.read_text()
     kept = f"# sums\n\n{digest(b'')} *./empty\r\n\\{digest(b'')}  odd\\\\\\n\\rname\n"
