@@ -422,6 +422,98 @@ def test_replace_failing(place, choose):
         [*pool.map(one, range(1, len(kinds) + 1))]
 
 
+def begun_replacement(place, choose, *names):
+    """A store with a file, and beside it all of one that was to replace it: the run was killed before any of that had its name. Gives the
+    bytes of both too."""
+    calls, store, count = Calls(place), place / "store", place / "count"
+    old, new = choose.randbytes(2_000), choose.randbytes(3_001)
+    run("encode", "--make-folders", *names, store, source(place, "a", old), status=0)
+    shutil.copytree(store, count)
+    source(place, "a", new)
+    number = calls.run([PROGRAM, "encode", "--replace", *names, count, place / "a"]).kinds.index("rename") + 1
+    shutil.rmtree(count)
+    killed = calls.run([PROGRAM, "encode", "--replace", *names, store, place / "a"], number, "kill")
+    hold(killed.status == -9, killed.text())
+    hold(decoded(store, "a", *names[1:]) == old and decoded(store, f"a{STAGED}", *names[1:]) == new, f"not both: {sorted(there(store))}")
+    return store, old, new
+
+
+def test_replacement_that_lost_a_fragment(place, choose):
+    """If a fragment of the new file is lost before it got its name, the old one goes with its digest, and a repair makes the new one."""
+    store, old, new = begun_replacement(place, choose)
+    lost = store / f"a{STAGED}.y1"
+    whole = lost.read_bytes()
+    lost.unlink()
+    # The same name again ends what was begun, and then has other bytes.
+    _, err = run("encode", store, source(place, "a", old), status=1)
+    hold("--replace replaces the file" in err and not (store / "a.y1").exists(), f"an old fragment is beside new ones: {err}")
+    files = there(store)
+    wrong = [name for name, digest in sums_of(store).items() if digest != hashlib.sha256(files.get(name, b"")).hexdigest()]
+    hold(not wrong, f"digests of the old file are left: {wrong}")
+    run("repair", store, status=0)
+    hold((store / "a.y1").read_bytes() == whole and decoded(store, "a") == new, "the new fragment isn't what it was")
+    run("scrub", store, status=0)
+
+
+def test_replacement_by_one_description(place, choose):
+    """Any copy of the new file's description says that all of it is there."""
+    for odd in (None, b"odd"):
+        store, old, new = begun_replacement(place, choose)
+        first = store / f"a{STAGED}.file"
+        first.unlink() if odd is None else first.write_bytes(odd)
+        hold(run("read", store, "a", status=0)[0] == new, "the old file is read")
+        _, err = run("encode", store, source(place, "a", old), status=1)
+        hold("is there already" in err and run("read", store, "a", status=0)[0] == new, f"the new file was thrown away: {err}")
+        hold(not [it for it in there(store) if STAGED in it], sorted(there(store)))
+        shutil.rmtree(store)
+
+
+def test_replacement_that_is_taken_out(place, choose):
+    """The folders that a file was to be replaced in go with it."""
+    names = ["--names", "{stripe}/{place}"]
+    store, _, _ = begun_replacement(place, choose, *names)
+    run("remove", *names, store, "a", status=0)
+    hold([path.name for path in store.iterdir()] == ["SHA256SUMS"], f"left {sorted(store.rglob('*'))}")
+
+
+def test_digests_of_blocks_that_fail(place, choose):
+    """A file of whose fragments one can't be read again, for its digest, isn't encoded, also where only its first block can't be read."""
+    calls, store, file = Calls(place), place / "store", source(place, "a", choose.randbytes(6 * 300_000))
+    command, tried = [PROGRAM, "encode", store, file], set()
+    kinds = calls.run(command).kinds
+    named = kinds.index("link")
+    for number in range(named - kinds[named::-1].index("write") + 1, named):
+        if kinds[number - 1] != "read":
+            continue
+        shutil.rmtree(store)
+        ended = calls.run(command, number, 5)
+        name = pathlib.Path(ended.paths[0]).name
+        # The file itself is read beside that.
+        if ended.kind == "read" and name.startswith(".rebuild-store-") and name not in tried:
+            tried.add(name)
+            hold(ended.status == 3 and "Input/output error" in ended.err and not there(store), f"call {number}: {ended.text()}")
+        if len(tried) == 3:
+            break
+    hold(tried, f"no fragment is read again: {kinds}")
+
+
+def test_digests_keep_their_rights(place, choose):
+    """The file of the digests keeps its owner and its rights where it is written anew."""
+    store = place / "store"
+    run("encode", store, source(place, "a", b"a"), status=0)
+    sums = store / "SHA256SUMS"
+    sums.chmod(0o604)
+    owner = (1_234, 5_678) if os.geteuid() == 0 else (os.geteuid(), os.getegid())
+    os.chown(sums, *owner)
+    for words in (["encode", store, source(place, "b", b"b")], ["encode", "--replace", store, source(place, "a", b"c")],
+                  ["remove", store, "b"]):
+        before = sums.read_bytes()
+        run(*words, status=0)
+        about = sums.stat()
+        hold(sums.read_bytes() != before, f"{words[0]} doesn't write the digests anew")
+        hold((about.st_mode & 0o7777, about.st_uid, about.st_gid) == (0o604, *owner), f"{words[0]}: {about}")
+
+
 def test_files_that_come_meanwhile(place, choose):
     """What another program puts under one of a file's names while this is encoded stays, and the file isn't said to be encoded."""
     calls, data = Calls(place), choose.randbytes(900)
@@ -487,6 +579,14 @@ def test_order_of_calls(place, choose):
     ended = calls.run([PROGRAM, "encode", f"{place}/slash/", file])
     ended = calls.run([PROGRAM, "encode", f"{place}/slashes//", file], sync_after(ended.kinds, 0), 5)
     hold(ended.paths == (str(place),), f"a folder that was made isn't written to the disk: {ended.paths}")
+    # Each folder of the store is, where it is made in another one: there the call that makes that one again comes in between.
+    deep = place / "deep"
+    words = [PROGRAM, "encode", "--make-folders", "--names", "a/b{shard}/{stripe}", deep, file]
+    kinds = calls.run(words).kinds
+    for nth, above in ((1, deep), (2, deep / "a"), (4, deep / "a")):
+        shutil.rmtree(deep)
+        ended = calls.run(words, sync_after(kinds, nth), 5)
+        hold(ended.paths == (str(above),), f"a folder that was made isn't written to the disk: {ended.paths}")
     for damaged in (False, True):
         (store / "a/x1").write_bytes(bytes(150)) if damaged else (store / "a/x1").unlink()
         (store / "a/a.file.copy").unlink()
@@ -547,6 +647,10 @@ def test_remove_folders(place, choose):
     (store / "b/mine").write_bytes(b"kept")
     run("remove", "--names", "{stripe}/{place}", store, "b", status=0)
     hold((store / "b/mine").read_bytes() == b"kept", "a folder that had something else was emptied")
+    store = place / "store-0"
+    run("remove", "--names", "disk{shard}/{stripe}", "--code", "6-2-2", store, "b", status=0)
+    left = {path.name for path in store.iterdir()}
+    hold(left == {"SHA256SUMS", *(f"disk{number}" for number in range(10))}, f"folders of disks went with the last file: {left}")
 
 
 def test_remove_through_a_link(place, choose):
@@ -632,6 +736,8 @@ def test_remove_killed(place, choose):
         where = f"killed at call {number}, {kinds[number - 1]}"
         hold(killed.status == -9, f"{where}: {killed.text()}")
         hold(decoded(store, "b") == data, f"{where}: another file is gone")
+        described = [it for it in ("a.file", "a.file.copy") if (store / it).exists()]
+        hold(not described or decoded(store, "a") == data, f"{where}: {described} are there, and the file isn't")
         again = ran("remove", store, "a")
         hold(again.returncode == 0 or b"is no file of the store" in again.stderr, f"{where}: {again.stderr!r}")
         hold(not [it for it in there(store) if not it.startswith(("b.", "SHA256SUMS"))], f"{where}: left {sorted(there(store))}")
@@ -684,6 +790,19 @@ def test_make_folders(place, choose):
     (store / "disk4").symlink_to(outside)
     run("encode", "--make-folders", *DISKS, store, place / "n", status=3)
     hold(not there(outside), "a file was made outside the store")
+    _, err = run("encode", "--make-folders", "--names", "disk4/{stripe}/{place}", store, place / "n", status=3)
+    hold("its folder is a link" in err and not [*outside.iterdir()], f"a folder was made outside the store: {err}")
+    # None is made for a file that can't be read.
+    calls, store = Calls(place), place / "unread"
+    words = [PROGRAM, "encode", "--make-folders", *DISKS, store, place / "n"]
+    for number, kind in enumerate(calls.run(words).kinds, 1):
+        if kind == "open":
+            shutil.rmtree(store)
+            ended = calls.run(words, number, 13)
+            if ended.paths == (str(place / "n"),):
+                break
+    hold(ended.status == 3 and f"{place / 'n'}: Permission denied" in ended.err, ended.text())
+    hold(not [*store.iterdir()], "folders were made for a file that can't be read")
 
 
 def test_limit_on_length(place, choose):
@@ -717,6 +836,11 @@ def test_limit_on_length(place, choose):
     (store / "b.file").write_text((store / "b.file").read_text().replace("5 ", "300000 ", 1))
     run("read", store, "b", "-o", place / "out", status=0, preexec_fn=limited)
     hold((place / "out").read_bytes() == b"short", "another file was read")
+    # Of standard input just as many bytes are taken as a file may get.
+    for many, status in ((20_480, 0), (20_481, 3)):
+        ended = ran("encode", store, "-", "--as", f"in{many}", given=bytes(many), preexec_fn=limited)
+        hold(ended.returncode == status, f"{many} bytes: {ended.returncode}: {ended.stderr!r}")
+        hold(decoded(store, f"in{many}") == (None if status else bytes(many)), f"{many} bytes aren't what they were")
 
 
 def test_limit_on_other_files(place, choose):
