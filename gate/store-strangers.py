@@ -160,11 +160,11 @@ def test_report_keeps_rights(place, choose):
     report.write_text("old")
     report.chmod(0o600)
     if is_root():
-        os.chown(report, OTHER, OTHER)
+        os.chown(report, OTHER, OTHER + 1)
     run("scrub", store, "--report", report, status=0, umask=0o022)
     about = report.stat()
     hold(about.st_mode & 0o7777 == 0o600, f"a report of mode 600 has now {about.st_mode & 0o7777:o}")
-    hold(not is_root() or about.st_uid == OTHER, "a report has another owner now")
+    hold(not is_root() or (about.st_uid, about.st_gid) == (OTHER, OTHER + 1), f"a report has another owner or group now: {about}")
     hold(report.read_text() == HEADER, report.read_text())
     # In a folder in which the user may make no file it is written as it is.
     if is_root():
@@ -366,6 +366,41 @@ def test_links(place, choose):
     hold("and others are links, 3 in all, and aren't followed without --follow-links\n" in said, said)
 
 
+def test_rights_of_linked_fragments(place, choose):
+    """Where each fragment of a stripe is a link that is followed, one that is made has the rights of what another leads to."""
+    store, behind = place / "all-linked", place / "all-behind"
+    files = lay(behind, choose, mode=0o640)
+    store.mkdir()
+    for name in files:
+        (store / name).symlink_to(behind / name)
+    (behind / "s.x1").unlink()
+    run("repair", "--follow-links", store, status=0)
+    mode = (behind / "s.x1").stat().st_mode & 0o7777
+    hold(there(behind) == files and mode == 0o640, f"a fragment beside others of mode 640 has {mode:o}")
+
+
+def test_survivors_that_give_too_little(place, choose):
+    """Four survivors that can't be read to their end are left out one after the other, and come back elsewhere from the six others."""
+    pages, page = pathlib.Path("/sys/kernel").glob("*"), None
+    # Some files of the kernel say that they have 4,096 bytes, and give fewer.
+    for path in pages:
+        with contextlib.suppress(OSError):
+            if path.is_file() and path.stat().st_size == 4_096 and 0 < len(path.read_bytes()) < 4_096:
+                page = path
+    if page is None:
+        raise Skipped("no file gives fewer bytes than it says")
+    store, to = place / "too-little", place / "too-little-to"
+    files = lay(store, choose, length=4_096)
+    to.mkdir()
+    left_out = ("s.x0", "s.y0", "s.p0", "s.p1")
+    for name in left_out:
+        (store / name).unlink()
+        (store / name).symlink_to(page)
+    said = run("repair", store, "--follow-links", "--reads", "all", "--to", to, status=3)
+    hold(all(said.count(f"{name}: can't be read: ") == 1 for name in left_out), said)
+    hold(there(to) == {name: files[name] for name in left_out}, f"{sorted(there(to))}: {said}")
+
+
 def test_linked_fragments_of_a_file(place, choose):
     """A fragment or a description that is a link is left out when a file is read or verified, unless links are followed."""
     store, outside, file = place / "linked-file", place / "outside-file", place / "linked"
@@ -431,6 +466,8 @@ def test_links_above_folders(place, choose):
     hold(f"rebuild-store: {store}/in: is a link, and isn't followed without --follow-links\n" in said, f"it isn't said as one link: {said}")
     hold("its folder is a link" in run("encode", store, source, *names, status=3), "a file was encoded through a link")
     hold(below(outside) == files, "something was written through a link")
+    said = run("encode", "--make-folders", "--code", "6-2-2", "--names", "in/more{shard}/{stripe}", store, source, status=3)
+    hold("its folder is a link" in said and not [*outside.glob("more*")], f"folders were made through a link: {said}")
     run("scrub", store, *names, "--follow-links", status=0)
     # One that leads to itself is said once, and not for each of the folders.
     (store / "in").unlink()
@@ -569,6 +606,79 @@ def test_locks_that_cannot_be_read(place, choose):
         lock.chmod(0o600)
         run("repair", store, status=3 if data else 0, **how)
         hold(lock.exists() == bool(data), f"{data}: {'is gone' if data else 'stays'}")
+    # An unfinished file has a name that nobody else gives, so that it goes whatever it has.
+    lock.rename(store / LEFTOVER)
+    run("repair", store, status=0, **how)
+    hold(not (store / LEFTOVER).exists(), "what a killed run left stays, since it can't be read")
+
+
+def test_leftovers_that_cannot_be_locked(place, choose):
+    """Where the system can't lock what a killed run left, it goes if it is in the store, whose folder is locked, and stays where a link
+    leads."""
+    calls, store, other = Calls(place), place / "unlocked", place / "unlocked-other"
+    lay(store, choose)
+    other.mkdir()
+    (store / "s.x0").unlink()
+    (store / "s.x0").symlink_to(other / "s.x0")
+    command = [PROGRAM, "repair", "--follow-links", store, "--workers", "1"]
+    for folder, status in ((store, 0), (other, 3)):
+        left = folder / LEFTOVER
+        left.write_bytes(b"half")
+        for number, kind in enumerate(calls.run(command).kinds, 1):
+            if kind == "lock":
+                left.write_bytes(b"half")
+                ended = calls.run(command, number, errno.ENOLCK, rest="path")
+                if ended.paths == (str(left),):
+                    break
+        hold(ended.paths == (str(left),) and ended.status == status, f"{ended.paths}: {ended.text()}")
+        hold(left.exists() == (folder == other), f"{left}: {ended.text()}")
+        left.unlink(missing_ok=True)
+
+
+def test_leftover_of_a_contradiction(place, choose):
+    """What was made of a contradiction and can't be taken away is said, with the status of a device."""
+    calls, store = Calls(place), place / "contradiction"
+    files = lay(store, choose)
+    (store / "s.x1").write_bytes(bytes(255 - byte for byte in files["s.x1"]))
+    (store / "s.x2").unlink()
+    command = [PROGRAM, "repair", store, "--code", "6-2-2", "--workers", "1"]
+    ended = calls.run(command)
+    hold(ended.status == 1 and "contradiction: one of these is damaged" in ended.err, ended.text())
+    ended = calls.run(command, ended.kinds.index("unlink") + 1, errno.EIO)
+    left = [name for name in there(store) if name not in files]
+    hold(ended.status == 3 and len(left) == 1, f"{left}: {ended.text()}")
+    hold(f"s: was left over, or isn't known to be on the disk: {store / left[0]}: Input/output error\n" in ended.err, ended.text())
+    ended = calls.run(command)
+    hold(ended.status == 1 and f"{store / left[0]}: was left by a run that was killed, and is removed" in ended.err, ended.text())
+
+
+def test_reads_for_what_cannot_be_made(place, choose):
+    """For a fragment that can't be made no more is read than for one that can be."""
+    calls, store = Calls(place), place / "unmade"
+    files = lay(store, choose)
+    (store / "SHA256SUMS").write_text("".join(f"{digest(data)}  {name}\n" for name, data in files.items()))
+    command = [PROGRAM, "repair", store, "--workers", "1"]
+    (store / "s.x0").unlink()
+    made = calls.run(command)
+    (store / "s.x0").unlink()
+    ended = calls.run(command, made.kinds.index("create") + 1, errno.ENOSPC, rest="kind")
+    hold(made.status == 0 and ended.status == 3, ended.text())
+    hold(ended.err == "s.x0: can't be put in its place: No space left on device\n", ended.text())
+    hold(ended.kinds.count("read") <= made.kinds.count("read"), f"{made.kinds} and, where nothing can be made, {ended.kinds}")
+
+
+def test_unread_fragment_is_said_once(place, choose):
+    """Of a fragment that can't be read nothing more is said where damaged ones are replaced."""
+    calls, store, ended = Calls(place), place / "unread", None
+    files = lay(store, choose)
+    command = [PROGRAM, "repair", store, "--code", "6-2-2", "--replace-damaged", "--workers", "1"]
+    for number, kind in enumerate(calls.run(command).kinds, 1):
+        if kind == "open":
+            ended = calls.run(command, number, errno.EIO, rest="path")
+            if ended.paths == (str(store / "s.x1"),):
+                break
+    hold(ended.status == 3 and ended.err == "s.x1: can't be read: Input/output error\n", ended.text())
+    hold("damaged: 0; not possible: 1\n" in ended.out and there(store) == files, ended.text())
 
 
 def test_locks_of_refused_runs(place, choose):
@@ -1047,6 +1157,23 @@ def test_fragments_that_fail_while_they_are_read(place, choose):
     hold(tried >= set(files) - {"s.x0"}, f"only {sorted(tried)} are read")
 
 
+def test_read_that_fails_once(place, choose):
+    """A fragment of which a disk fails to give one block, and gives the next, is one that can't be read, and doesn't differ."""
+    calls, store, tried = Calls(place), place / "failing-once", set()
+    files = lay(store, choose, length=300_000)
+    (store / "SHA256SUMS").write_text("".join(f"{digest(data)}  {name}\n" for name, data in files.items()))
+    command = [PROGRAM, "scrub", "-j", "1", store]
+    for number, kind in enumerate(calls.run(command).kinds, 1):
+        if kind == "read" and len(tried) < 3:
+            ended = calls.run(command, number, errno.EIO)
+            name = pathlib.Path(ended.paths[0]).name
+            if name in files and name not in tried:
+                tried.add(name)
+                hold(ended.status == 3 and f"{name}: can't be read: Input/output error\n" in ended.out, f"{name}: {ended.text()}")
+                hold("differs from the checksums" not in ended.out, f"{name}: {ended.text()}")
+    hold(len(tried) == 3, f"only {sorted(tried)} are read")
+
+
 def test_disks_of_others(place, choose):
     """A disk's folder that the user may not list, and one that is full of rights but one, cost no other disk its fragments."""
     how = as_user(place)
@@ -1231,7 +1358,7 @@ def test_descriptions_that_differ(place, choose):
     """A copy that differs is named and never believed over the others, unless the sums say so; it is replaced only if that is asked for."""
     store, data, line = encoded_disks(place, choose)
     whole = below(store)
-    other = line.replace(b"1001", b"1002")
+    other = line.replace(b"1001", b"2002")
     report = place / "report.csv"
     for wrong in (other, b"", b"no description"):
         (store / "disk4/note.file").write_bytes(wrong)
@@ -1244,6 +1371,8 @@ def test_descriptions_that_differ(place, choose):
         hold(", 0 can't; " in said and said.endswith("; 1 description can be made\n") and "disk4/" not in said, said)
         ended = subprocess.run([PROGRAM, "read", store, "note", *DISKS[2:]], capture_output=True)
         hold(ended.returncode == 0 and ended.stdout == data, ended.stderr.decode())
+        # What most copies say comes first, and nothing is said of fragments that another one would have.
+        hold(wrong != other or not ended.stderr, ended.stderr.decode())
         run("repair", store, *DISKS, "--replace-damaged", status=0)
         hold((store / "disk4/note.file.damaged").read_bytes() == wrong, "the copy that differed isn't kept")
         (store / "disk4/note.file.damaged").unlink()
@@ -1367,12 +1496,20 @@ def test_descriptions_of_before(place, choose):
     (store / "SHA256SUMS").unlink()
     ended = subprocess.run([PROGRAM, "read", store, "note", *DISKS[2:]], capture_output=True)
     hold(ended.returncode == 0 and ended.stdout == data, ended.stderr.decode())
+    # Another file isn't encoded beside it, and replaces it if that is asked for.
+    source, again = place / "note", place / "again"
+    shutil.copytree(store, again)
+    source.write_bytes(choose.randbytes(2_001))
+    said = run("encode", again, source, *DISKS, status=1)
+    hold("note.file: is there already, with other bytes" in said, said)
+    run("encode", "--replace", again, source, *DISKS, status=0)
+    ended = subprocess.run([PROGRAM, "read", again, "note", *DISKS[2:]], capture_output=True)
+    hold(ended.stdout == source.read_bytes() and "note.file" not in below(again), ended.stderr.decode())
     run("repair", store, *DISKS, status=0)
     del whole["SHA256SUMS"]
     hold(below(store) == {**whole, "note.file": line}, "the copies weren't made")
     run("scrub", store, *DISKS, status=0)
     # Replacing the file leaves no description of the old one.
-    source = place / "note"
     source.write_bytes(choose.randbytes(2_002))
     for words in (["--replace"], []):
         run("encode", *words, store, source, *DISKS, status=0)
@@ -1413,6 +1550,20 @@ def test_files_named_like_descriptions(place, choose):
         hold(not list(store.glob("disk*/note*")), "fragments stay")
         other.rmdir() if other.is_dir() and not other.is_symlink() else other.unlink()
         run("encode", store, source, *DISKS, status=0)
+
+
+def test_long_file_named_like_a_description(place, choose):
+    """A file that is named like a description and is longer than memory isn't read, and another copy is."""
+    store, data, _ = encoded_disks(place, choose)
+    # The rest is a hole, which takes no room on the disk.
+    os.truncate(store / "disk0/note.file", 1 << 33)
+
+    def limited():
+        resource.setrlimit(resource.RLIMIT_AS, (1 << 32, 1 << 32))
+
+    ended = subprocess.run([PROGRAM, "read", store, "note", *DISKS[2:]], capture_output=True, preexec_fn=limited)
+    said = f"rebuild-store: {store}/disk0/note.file: isn't a line with a length, a digest and a code\n"
+    hold((ended.returncode, ended.stdout, ended.stderr.decode()) == (0, data, said), f"{ended.returncode}: {ended.stderr.decode()}")
 
 
 def test_stripe_named_like_descriptions(place, choose):
@@ -1636,33 +1787,70 @@ def test_names_that_others_give_meanwhile(place, choose):
             path.unlink()
         status, said = go_on()
         hold(status == 0 and there(store) == files, f"status {status}: {said}")
+    # The digests are asked for what they are twice, too.
+    (store / "SHA256SUMS").write_text(f"{digest(files['s.x0'])}  s.x0\n")
+    other.write_text(f"{digest(b'other')}  s.x0\n")
+    command = [PROGRAM, "scrub", store, "--workers", "1"]
+    opens = [number for number, kind in enumerate(calls.run(command).kinds, 1) if kind == "open"]
+    number = next(number for number in opens if calls.run(command, number, errno.EIO).paths[0].endswith("/SHA256SUMS"))
+    with waiting(calls, place, command, number) as go_on:
+        (store / "SHA256SUMS").unlink()
+        (store / "SHA256SUMS").symlink_to(other)
+        status, said = go_on()
+        hold(status == 3 and "SHA256SUMS: another file came under the name" in said, f"status {status}: {said}")
+
+
+def test_stripe_rewritten_with_its_times(place, choose):
+    """A stripe that is rewritten while it is read has changed also if each file gets the time back at which it was written."""
+    calls, store = Calls(place), place / "same-times"
+    lay(store, choose)
+    after = {f"s.{name}": data for name, data in stripe("6-2-2", 600, choose).items()}
+    command = [PROGRAM, "scrub", store, "--workers", "1"]
+    last = max(number for number, kind in enumerate(calls.run(command).kinds, 1) if kind == "read")
+    with waiting(calls, place, command, last) as go_on:
+        for name, data in after.items():
+            about = (store / name).stat()
+            (store / name).write_bytes(data)
+            os.utime(store / name, ns=(about.st_atime_ns, about.st_mtime_ns))
+        status, said = go_on()
+        hold(status == 1 and "changed meanwhile" in said, f"status {status}: {said}")
 
 
 def test_source_that_changes_meanwhile(place, choose):
-    """A file that is rewritten while it is encoded is refused, or encoded as it is then, at whichever of its openings that is."""
-    calls, store, source = Calls(place), place / "rewriting", place / "rewritten-source"
-    command, opens = [PROGRAM, "encode", store, source], []
+    """A file that is rewritten while it is encoded is refused, or encoded as it is then, at whichever of its openings that is; and so is
+    one in whose place another of its length and its time comes, whenever it is looked at."""
+    calls, store, source, other = Calls(place), place / "rewriting", place / "rewritten-source", place / "another-source"
+    command, numbers = [PROGRAM, "encode", store, source], {"open": [], "look": []}
     source.write_bytes(choose.randbytes(6_000))
     for number, kind in enumerate(calls.run(command).kinds, 1):
-        if kind == "open":
-            shutil.rmtree(store)
-            opens += [number] * (str(source) in calls.run(command, number, errno.EIO).paths)
-    refused = 0
-    for number in opens:
-        shutil.rmtree(store)
+        if kind in numbers:
+            shutil.rmtree(store, ignore_errors=True)
+            numbers[kind] += [number] * (str(source) in calls.run(command, number, errno.EIO).paths)
+    refused = set()
+    for kind, number in ((kind, number) for kind in numbers for number in numbers[kind]):
+        shutil.rmtree(store, ignore_errors=True)
         with waiting(calls, place, command, number) as go_on:
             # What works beside the call that waits comes to its end.
             time.sleep(0.2)
-            after = choose.randbytes(6_000)
-            source.write_bytes(after)
+            before, after = source.read_bytes(), choose.randbytes(6_000)
+            if kind == "open":
+                source.write_bytes(after)
+            else:
+                about = source.stat()
+                other.write_bytes(after)
+                os.utime(other, ns=(about.st_atime_ns, about.st_mtime_ns))
+                other.rename(source)
             status, said = go_on()
         if status != 0:
-            hold(status == 1 and "changed while it was read" in said, f"call {number}: status {status}: {said}")
-            refused += 1
+            is_said = any(words in said for words in ("changed while it was read", "another file came under the name"))
+            hold(is_said and status in (1, 3), f"call {number}, {kind}: status {status}: {said}")
+            refused.add(kind)
             continue
         ended = subprocess.run([PROGRAM, "read", store, source.name], capture_output=True)
-        hold(ended.stdout == after, f"call {number}: another file was encoded: {ended.stderr.decode()}")
-    hold(refused > 0, f"no rewritten file was refused, at the calls {opens}")
+        # Its length is looked at once more at the end.
+        is_one = ended.stdout == after or kind == "look" and ended.stdout == before
+        hold(is_one, f"call {number}, {kind}: another file was encoded: {ended.stderr.decode()}")
+    hold(refused == set(numbers), f"no changed file was refused, at the calls {numbers}")
 
 
 def test_lengths_that_nothing_decides(place, choose):
