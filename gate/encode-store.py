@@ -215,7 +215,7 @@ def test_damage(folder, code, choose):
         path = folder / f"f0.{ending}"
         path.write_bytes(path.read_bytes().replace(b" ", b"  ", 1))
     _, errors = run("read", folder, "f0", status=1)
-    check("isn't a line with" in errors, errors)
+    check(errors.count("f0.file: isn't a line with") == errors.count("f0.file.copy: isn't a line with") == 1, errors)
     (folder / "f0.file").unlink()
     (folder / "f0.file.copy").unlink()
     _, errors = run("read", folder, "f0", status=1)
