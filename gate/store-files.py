@@ -178,6 +178,8 @@ def test_verify(place, choose):
     hold(out == b"verified 1 file; not as described: 1\n" and "a: the fragments that are there don't give" in err, err)
     out, err = run("verify", store, "b", "nothere", status=1)
     hold(f"nothere: is no file of the store {store}" in err, err)
+    _, err = run("read", place / "nowhere", "a", status=3)
+    hold(err == f"rebuild-store: {place}/nowhere: No such file or directory\n", err)
     for name in ("a.file", "a.file.copy"):
         (store / name).unlink()
     _, err = run("verify", store, "a", status=1)
@@ -476,6 +478,20 @@ def test_replacement_that_is_taken_out(place, choose):
     hold([path.name for path in store.iterdir()] == ["SHA256SUMS"], f"left {sorted(store.rglob('*'))}")
 
 
+def test_replacement_through_a_link(place, choose):
+    """What was begun isn't ended through a link in place of a disk's folder, unless links are followed."""
+    store, old, new = begun_replacement(place, choose, *DISKS)
+    outside = place / "outside"
+    (store / "disk3").rename(outside)
+    (store / "disk3").symlink_to(outside)
+    before = there(outside)
+    _, err = run("encode", *DISKS, store, source(place, "a", new), status=3)
+    hold("its folder is a link, and links aren't followed" in err and there(outside) == before, f"{err}: {sorted(there(outside))}")
+    run("encode", "--follow-links", *DISKS, store, place / "a", status=0)
+    hold(run("read", "--follow-links", *DISKS, store, "a", status=0)[0] == new, "not the new file")
+    hold(set(there(outside)) == {"a", "a.file"}, f"left {sorted(there(outside))}")
+
+
 def test_digests_of_blocks_that_fail(place, choose):
     """A file of whose fragments one can't be read again, for its digest, isn't encoded, also where only its first block can't be read."""
     calls, store, file = Calls(place), place / "store", source(place, "a", choose.randbytes(6 * 300_000))
@@ -495,6 +511,23 @@ def test_digests_of_blocks_that_fail(place, choose):
         if len(tried) == 3:
             break
     hold(tried, f"no fragment is read again: {kinds}")
+
+
+def test_what_a_fault_of_encoding_is_of(place, choose):
+    """What can't be read is said of the file, and what can't be written of the fragments in the store."""
+    calls, store, file = Calls(place), place / "store", source(place, "a", choose.randbytes(900))
+    command = [PROGRAM, "encode", store, file]
+    kinds, said = calls.run(command).kinds, {}
+    for number, kind in enumerate(kinds, 1):
+        if kind in ("read", "write"):
+            shutil.rmtree(store)
+            ended = calls.run(command, number, 5)
+            # The file is digested beside that, so that the calls aren't in the same order each time.
+            if ended.kind == "write" or ended.paths == (str(file),):
+                said.setdefault(ended.kind, ended)
+    for kind, path in (("read", file), ("write", store / "a")):
+        ended = said[kind]
+        hold(ended.status == 3 and ended.err == f"rebuild-store: {path}: Input/output error\n", f"{kind}: {ended.text()}")
 
 
 def test_digests_keep_their_rights(place, choose):
@@ -753,6 +786,12 @@ def test_standard_input(place, choose):
     hold(decoded(store, "in") == data and are_right(store), "standard input isn't what it was")
     run("encode", store, "-", "--as", "empty", status=0)
     hold(decoded(store, "empty") == b"", "nothing isn't what it was")
+    # A read that a signal interrupts is made again.
+    calls = Calls(place)
+    command = [PROGRAM, "encode", store, "-", "--as", "empty"]
+    reads = [number for number, kind in enumerate(calls.run(command).kinds, 1) if kind == "read"]
+    tried = [ended for ended in (calls.run(command, number, 4) for number in reads) if ended.paths == ("/dev/null",)]
+    hold(tried and all(ended.status == 0 for ended in tried), [ended.text() for ended in tried])
     run("encode", store, source(place, "file", b"other"), "--as", "name", status=0)
     hold(decoded(store, "name") == b"other" and not (store / "file.x0").exists(), "a file has another name than was given")
     # What it is kept in is nobody else's to read, whatever the mask.
@@ -802,7 +841,8 @@ def test_make_folders(place, choose):
             if ended.paths == (str(place / "n"),):
                 break
     hold(ended.status == 3 and f"{place / 'n'}: Permission denied" in ended.err, ended.text())
-    hold(not [*store.iterdir()], "folders were made for a file that can't be read")
+    run("encode", "--make-folders", *DISKS, store, place / "n", "--as", "n.file", status=1)
+    hold(not [*store.iterdir()], "folders were made for a file that can't be read, or have its name")
 
 
 def test_limit_on_length(place, choose):
