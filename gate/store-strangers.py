@@ -667,6 +667,24 @@ def test_reads_for_what_cannot_be_made(place, choose):
     hold(ended.kinds.count("read") <= made.kinds.count("read"), f"{made.kinds} and, where nothing can be made, {ended.kinds}")
 
 
+def test_fragments_that_cannot_be_looked_at(place, choose):
+    """A fragment that can't be looked at is said, with the status of a device, also of a stripe that can't be mended, and of one of which
+    nothing else is left."""
+    store = place / "loops"
+    files = lay(store, choose, names=("a", "b"))
+    for name in ("a.x1", "a.y2"):
+        (store / name).write_bytes(bytes(255 - byte for byte in files[name]))
+    # Links that lead to themselves.
+    loops = ["a.p0", *(name for name in files if name[0] == "b")]
+    for name in loops:
+        (store / name).unlink()
+        (store / name).symlink_to(name)
+    said = run("repair", "--follow-links", "--code", "6-2-2", "--reads", "all", store, status=3)
+    hold("a: contradiction" in said and "b: no fragment can be read\n" in said, said)
+    wrong = [name for name in loops if said.count(f"{name}: can't be looked at: Too many levels of symbolic links\n") != 1]
+    hold(not wrong, f"{wrong}: {said}")
+
+
 def test_unread_fragment_is_said_once(place, choose):
     """Of a fragment that can't be read nothing more is said where damaged ones are replaced."""
     calls, store, ended = Calls(place), place / "unread", None
@@ -1517,8 +1535,24 @@ def test_descriptions_of_before(place, choose):
         run("scrub", store, *DISKS, status=0)
     ended = subprocess.run([PROGRAM, "read", store, "note", *DISKS[2:]], capture_output=True)
     hold(ended.returncode == 0 and ended.stdout == source.read_bytes(), ended.stderr.decode())
-    # Neither does removing it.
+    # Where it can't be read nothing goes on, since it would stay beside another file, or alone.
     (store / "note.file").write_bytes(line)
+    source.write_bytes(choose.randbytes(2_003))
+    calls, again = Calls(place), place / "once-more"
+    for words in (["encode", "--replace", *DISKS, again, source], ["remove", *DISKS, again, "note"]):
+        shutil.copytree(store, again)
+        for number, kind in enumerate(calls.run([PROGRAM, *words]).kinds, 1):
+            if kind == "open":
+                shutil.rmtree(again)
+                shutil.copytree(store, again)
+                ended = calls.run([PROGRAM, *words], number, errno.EIO, rest="path")
+                if ended.paths == (str(again / "note.file"),):
+                    break
+        hold(ended.paths == (str(again / "note.file"),) and ended.status == 3, f"{words[0]}: {ended.paths}: {ended.text()}")
+        wanted = {name: data for name, data in below(store).items() if name != "SHA256SUMS"}
+        hold("note.file: Input/output error" in ended.err and below(again).items() >= wanted.items(), f"{words[0]}: {ended.text()}")
+        shutil.rmtree(again)
+    # Neither does removing it leave one.
     run("remove", store, "note", *DISKS, status=0)
     hold(set(below(store)) <= {"SHA256SUMS"}, f"{sorted(below(store))} stay")
 
@@ -2349,6 +2383,12 @@ def test_line_within_a_file(place, choose):
     said, status = on_terminal("encode", store, "--replace", file, place / "nothere", file, slow=slow)
     refused = r"\x1b\[A\r\x1b\[Krebuild-store: \S+nothere: No such file or directory\r\n(?!\x1b\[A)"
     hold(status == 3 and re.search(refused, said), repr(said))
+    # Nor is what is said of a file that is verified after the long one.
+    (place / "g").write_bytes(b"g")
+    run("encode", store, place / "g", status=0)
+    (store / "g.x0").unlink()
+    said, status = on_terminal("verify", store, slow=slow)
+    hold(status == 0 and re.search(r"\x1b\[A\r\x1b\[Krebuild-store: \S*g\.x0: left out[^\r\n]*\r\n", said), repr(said))
 
 
 def test_line_within_a_stripe(place, choose):
