@@ -1142,8 +1142,11 @@ def test_files_that_may_not_be_read(place, choose):
     hold((to / "a.y2").read_bytes() == (store / "a.y2").read_bytes(), f"what couldn't be read wasn't rebuilt: {said}")
     for path in store.glob("a.*"):
         path.chmod(0)
-    said = run("list", store, status=0, **how)
+    # A list names all files, and says which descriptions can't be read.
+    said = run("list", store, status=3, **how)
     hold(all(f" {name}\n" in said for name in "abc"), said)
+    unread = [line for line in said.splitlines() if "can't be read" in line]
+    hold(unread == [f"rebuild-store: a.{ending}: can't be read: Permission denied" for ending in ("file", "file.copy")], said)
 
 
 def test_fragments_that_fail_while_they_are_read(place, choose):

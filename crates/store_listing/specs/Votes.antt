@@ -1,11 +1,12 @@
 -- Of which code stripes are by what is at their places, and which code the votes of many say.
-use Rattle.std.specs.Prelude.{◌<◌, ◌≤◌, ◌≡◌, ◌/◌, ◌⊎◌, ℕ, Bool, List, false, true, count_by, slice_index_or}
+use Rattle.std.specs.Prelude.{◌<◌, ◌≤◌, ◌≡◌, ◌/◌, ◌⊎◌, ◌&&◌, ◌==◌, ℕ, Bool, List, false, true, count_by, if◌then◌else◌, nat_le, nat_lt, slice_index_or}
 use Rattle.lrc_code.specs.declared.codes.Code.{Code as CodeName}
 use Rattle.lrc_code.specs.declared.codes.Code.TheVariants.{Narrow, Wide}
 use Rattle.lrc_code.specs.Codes.{tables_of}
 use Rattle.lrc_code.specs.Places.{index_of}
 use Rattle.stores.specs.declared.stripes.Found.{Found as FoundName}
 use Rattle.stores.specs.declared.stripes.Found.TheVariants as found
+use Rattle.stores.specs.declared.stripes.StripeFiles.{StripeFiles as StripeFilesName}
 use Rattle.store_listing.specs.declared.votes.Votes.{Votes}
 
 -- whether something was found
@@ -31,13 +32,25 @@ votes_of votes Narrow = votes.narrow
 votes_of votes Wide = votes.wide
 
 -- The places of 6-2-2 are places of 12-2-2 too.
--- files at a place that 6-2-2 hasn't
-abbrev pub HasWidePlace : List FoundName → Type 0
-HasWidePlace files = there_count Narrow files < there_count Wide files
+-- the code that files at places say: 12-2-2 if one is at a place that 6-2-2 hasn't, 6-2-2 if all ten of it have one, and else this code
+abbrev pub code_said : CodeName → List FoundName → CodeName
+code_said doubtful files = if nat_lt (there_count Narrow files) (there_count Wide files) then Wide
+    else (if there_count Narrow files == 10 then Narrow else doubtful)
 
--- files at each of the ten places of 6-2-2
-abbrev pub HasNarrowPlaces : List FoundName → Type 0
-HasNarrowPlaces files = there_count Narrow files ≡ 10
+-- whether a code is this one
+abbrev pub is_code : CodeName → CodeName → Bool
+is_code Narrow Narrow = true
+is_code Narrow Wide = false
+is_code Wide Narrow = false
+is_code Wide Wide = true
+
+-- whether files are a stripe, and say a code
+abbrev pub says : CodeName → CodeName → StripeFilesName → Bool
+says code doubtful files = nat_le 2 (there_count Wide files.found) && is_code code (code_said doubtful files.found)
+
+-- how many stripes say each code
+abbrev pub placed_votes : CodeName → List StripeFilesName → Votes
+placed_votes doubtful stripes = record { narrow = count_by (says Narrow doubtful) stripes; wide = count_by (says Wide doubtful) stripes }
 
 -- Without descriptions a store is one of 12-2-2 if at least half of its stripes have a place of that code alone, or a fifth of the
 -- fragments that sums name.

@@ -1,4 +1,11 @@
 //! Which stripes a store has, by the names of its files and by what else says that they should be there.
+ghost use Rattle.std.specs.Prelude.{◌↔◌, ◌≡◌, ◌≢◌, ◌+◌, ◌<◌, ◌⊎◌};
+ghost use Rattle.std.specs.BTreeMap.{values};
+ghost use Rattle.std.specs.Bool.{IsTrue};
+ghost use Rattle.lrc_code.specs.declared.codes.Code.TheVariants.{Narrow, Wide};
+ghost use Rattle.store_listing.specs.declared.votes.Others.TheVariants as others;
+ghost use Rattle.store_listing.specs.Votes.{SayWide, other_code, placed_votes, votes_of};
+
 use crate::store_stripes::{Alone, StoreStripes};
 use crate::votes::{Others, Votes, are_stripe, others_of, placed_code, said_by};
 use lrc_code::{Code, Place};
@@ -58,7 +65,9 @@ impl StripeNames {
     }
 
     /// Whether no file is named as a fragment and no stripe is expected, in any part.
-    pub fn is_empty(&self) -> bool {
+    pub fn is_empty(&self) -> bool
+        ensures { IsTrue result ↔ self.now.named ≡ 0 }
+    {
         self.named == 0
     }
 
@@ -169,7 +178,12 @@ impl StripeNames {
 
     /// The code that most descriptions say, and without them the places of the files: 12-2-2 where at least half of the stripes have a
     /// place of that code alone, or a fifth of the fragments that sums name.
-    pub fn code(&self) -> Code {
+    pub fn code(&self) -> Code
+        ensures described { 0 < self.now.by_descriptions.narrow + self.now.by_descriptions.wide
+            → ((result ≡ Wide) ↔ (self.now.by_descriptions.narrow < self.now.by_descriptions.wide)) }
+        ensures placed { self.now.by_descriptions.narrow + self.now.by_descriptions.wide ≡ 0
+            → ((result ≡ Wide) ↔ SayWide (placed_votes Narrow (values self.now.files)) self.now.by_sums) }
+    {
         match self.by_descriptions.most() {
             Some(code) => code,
             None => placed_code(self.by_places(Code::Narrow), self.by_sums),
@@ -177,7 +191,9 @@ impl StripeNames {
     }
 
     /// How many stripes are of each code by their places.
-    fn by_places(&self, doubtful_is: Code) -> Votes {
+    fn by_places(&self, doubtful_is: Code) -> Votes
+        ensures { result ≡ placed_votes doubtful_is (values self.now.files) }
+    {
         let mut votes = Votes::default();
         for files in self.files.values() {
             if are_stripe(files, Code::Wide) {
@@ -189,7 +205,14 @@ impl StripeNames {
 
     /// How many stripes are of the other code than this one, as their descriptions say, or their places: one has a place that the (6,2,2)
     /// code hasn't, or all places of that one and no other. Where all descriptions say the other code, all are.
-    pub fn of_another_code(&self, code: Code) -> Others {
+    pub fn of_another_code(&self, code: Code) -> Others
+        ensures none { (result ≡ others.None) ↔ ((votes_of self.now.by_descriptions (other_code code) ≡ 0)
+            × (votes_of (placed_votes code (values self.now.files)) (other_code code) ≡ 0)) }
+        ensures all { (result ≡ others.All) ↔ ((votes_of self.now.by_descriptions code ≡ 0)
+            × ((0 < votes_of self.now.by_descriptions (other_code code))
+            ⊎ ((0 < votes_of (placed_votes code (values self.now.files)) (other_code code))
+            × (votes_of (placed_votes code (values self.now.files)) code ≡ 0)))) }
+    {
         others_of(code, self.by_descriptions, self.by_places(code))
     }
 

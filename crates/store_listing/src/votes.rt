@@ -5,7 +5,7 @@ ghost use Rattle.lrc_code.specs.Places.{index_of};
 ghost use Rattle.lrc_code.specs.declared.codes.Code.TheVariants.{Narrow, Wide};
 ghost use Rattle.stores.specs.declared.stripes.Found.TheVariants as found;
 ghost use Rattle.store_listing.specs.declared.votes.Others.TheVariants as others;
-ghost use Rattle.store_listing.specs.Votes.{HasNarrowPlaces, HasWidePlace, SayWide, is_there, other_code, there_count, votes_of};
+ghost use Rattle.store_listing.specs.Votes.{SayWide, code_said, is_there, other_code, there_count, votes_of};
 
 use lrc_code::{Code, Place};
 use stores::{Found, StripeFiles};
@@ -119,9 +119,7 @@ pub(crate) fn are_stripe(files: &StripeFiles, code: Code) -> bool
 
 /// The code of a stripe by its places: 12-2-2 if it has one that the (6,2,2) code hasn't, 6-2-2 if it has all of that code, and else this.
 pub(crate) fn said_by(files: &StripeFiles, doubtful_is: Code) -> Code
-    ensures wide { HasWidePlace files.now.found → result ≡ Wide }
-    ensures narrow { ¬ HasWidePlace files.now.found → HasNarrowPlaces files.now.found → result ≡ Narrow }
-    ensures doubtful { ¬ HasWidePlace files.now.found → ¬ HasNarrowPlaces files.now.found → result ≡ doubtful_is }
+    ensures { result ≡ code_said doubtful_is files.now.found }
 {
     let narrow = count_of(files, Code::Narrow);
     if narrow < count_of(files, Code::Wide) {

@@ -4,7 +4,7 @@ use crate::output::say_alone;
 use lrc_code::PlaceSet;
 use std::alloc::{AllocError, Global};
 use store_arguments::ListOptions;
-use store_faults::{DEVICE, DONE, FileFault, device, say, write};
+use store_faults::{CopyFinding, DEVICE, DONE, FileFault, device, say, write};
 use store_folder::Site;
 use store_opening::{OpenStore, Opening, open_store};
 use store_reading::{CopyWork, DescribedStripe, tend_descriptions};
@@ -30,8 +30,11 @@ fn list_files(
     let site = store.site_of(opening);
     let stripes = store.stripes(rt)?;
     let mut broken = 0u64;
+    let mut is_device = store.has_unlisted;
     for stripe in &stripes {
-        let file = file_of(rt, store, &site, stripe)?;
+        let known = known_of(rt, store, &site, stripe)?;
+        is_device = known.is_unread || is_device;
+        let file = file_of(alloc, store, stripe, &known)?;
         broken = broken.saturating_add(u64::from(file.state != FileState::Whole));
         let line = file_line(alloc, &file, form)?;
         // An object has escapes of its own.
@@ -45,18 +48,27 @@ fn list_files(
     }
     say_alone(rt, store, opening, false);
     say(rt, files_listed(alloc, stripes.len() as u64, broken))?;
-    Ok(if store.has_unlisted { DEVICE } else { DONE })
+    Ok(if is_device { DEVICE } else { DONE })
+}
+
+/// What the descriptions of a file say.
+#[derive(Clone, Copy)]
+struct Known {
+    bytes: Option<u64>,
+    /// Whether all that there should be are as they should be, and whether one can't be read.
+    are_whole: bool,
+    is_unread: bool,
 }
 
 /// What is there of a stripe and of its descriptions.
 fn file_of<'a>(
-    rt: &HostRuntime,
+    alloc: Global,
     store: &OpenStore,
-    site: &Site<'_>,
     stripe: &Stripe<'a>,
+    known: &Known,
 ) -> Result<ListedFile<'a>, AllocError> {
     let code = store.code;
-    let (bytes, is_described) = described(rt, store, site, stripe)?;
+    let bytes = known.bytes;
     let length = match bytes {
         Some(bytes) => Some(fragment_length(code, bytes as usize) as u64),
         None => stripe.files.length(),
@@ -66,25 +78,29 @@ fn file_of<'a>(
         None => PlaceSet::empty(),
     };
     let lost = code.places().len().saturating_sub(survivors.len());
-    let are_determined = are_determined(rt.alloc(), store, survivors)?;
+    let are_determined = are_determined(alloc, store, survivors)?;
     Ok(ListedFile {
         name: stripe.name,
         bytes,
         code,
         there: survivors.len(),
-        state: FileState::of(lost, are_determined, is_described),
+        state: FileState::of(lost, are_determined, known.are_whole),
     })
 }
 
-/// How many bytes a description says, and whether all descriptions that there should be are as they should be.
-fn described(
+/// What the descriptions of a stripe say. Those that can't be read are named.
+fn known_of(
     rt: &HostRuntime,
     store: &OpenStore,
     site: &Site<'_>,
     stripe: &Stripe<'_>,
-) -> Result<(Option<u64>, bool), AllocError> {
+) -> Result<Known, AllocError> {
     if !store.found.described.contains(stripe.name) {
-        return Ok((None, true));
+        return Ok(Known {
+            bytes: None,
+            are_whole: true,
+            is_unread: false,
+        });
     }
     let stripe = DescribedStripe {
         name: stripe.name,
@@ -92,8 +108,25 @@ fn described(
         unmounted: &[],
     };
     let found = tend_descriptions(rt, site, &stripe, CopyWork::Name)?;
-    let bytes = found.described.map(|described| described.length);
-    Ok((bytes, found.findings.is_empty()))
+    let is_unread = say_unread(rt, found.findings.as_slice())?;
+    Ok(Known {
+        bytes: found.described.map(|described| described.length),
+        are_whole: found.findings.is_empty(),
+        is_unread,
+    })
+}
+
+/// Says which descriptions can't be read, and whether there is such a one.
+fn say_unread(rt: &HostRuntime, findings: &[CopyFinding]) -> Result<bool, AllocError> {
+    let mut is_unread = false;
+    for finding in findings {
+        if finding.reason.is_of_device() {
+            let text = finding.text(rt.alloc())?;
+            say(rt, format!(in rt.alloc(); "rebuild-store: {text}"))?;
+            is_unread = true;
+        }
+    }
+    Ok(is_unread)
 }
 
 /// Whether some survivors determine all fragments.
