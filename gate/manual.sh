@@ -63,19 +63,23 @@ def store_help(*words):
     return subprocess.run([sys.argv[2], *words, '--help'], check=True, capture_output=True, text=True).stdout
 
 
+def valued(text):
+    return {' '.join(it).rstrip() for it in re.findall(r'^ +(?:-[a-z], )?(--[a-z-]+)(?: <(\S+)>)?', text, re.M)} - {'--help'}
+
+
 def options_of(text):
-    return set(re.findall(r'^ +(?:-[a-z], )?(--[a-z-]+)', text, re.M)) - {'--help'}
+    return {it.partition(' ')[0] for it in valued(text)}
 
 
-# The synopsis of each command, from its .Cm to the next .Nm, and the list of the options.
+# The synopsis of each command, from its .Cm to the next .Nm, with the words for values, and the list of the options.
 synopsis, described = pages['rebuild-store.1'].split('\n.Sh DESCRIPTION\n')
-shown_of = {part.split('\n')[1].removeprefix('.Cm '): {f'-{it}' for it in re.findall(r'^\.Op Fl (-[a-z-]+)', part, re.M)}
+shown_of = {part.split('\n')[1].removeprefix('.Cm '): {f'-{it}'.replace(' Ar ', ' ') for it in re.findall(r'^\.Op Fl (-.+)$', part, re.M)}
             for part in synopsis.split('\n.Nm')[1:] if '\n.Cm ' in part}
 commands = set(re.findall(r'^  ([a-z]+) ', store_help().partition('\nCommands:\n')[2].partition('\n\n')[0], re.M)) - {'help'}
 listed = {f'-{it}' for it in re.findall(r'^\.It Fl (?:[a-z] , Fl )?(-[a-z-]+)', described, re.M)}
 for command in sorted(commands):
-    options = options_of(store_help(command))
-    lacking = options - (shown_of.get(command, set()) & listed)
+    options = valued(store_help(command))
+    lacking = options - shown_of.get(command, set()) | options_of(store_help(command)) - listed
     if lacking or f'\n.It Cm {command}\n' not in described:
         fail(f'rebuild-store.1 lacks of {command}: {" ".join(sorted(lacking)) or "what it does"}')
     if shown_of[command] - options:
