@@ -881,6 +881,14 @@ def test_limit_on_length(place, choose):
         ended = ran("encode", store, "-", "--as", f"in{many}", given=bytes(many), preexec_fn=limited)
         hold(ended.returncode == status, f"{many} bytes: {ended.returncode}: {ended.stderr!r}")
         hold(decoded(store, f"in{many}") == (None if status else bytes(many)), f"{many} bytes aren't what they were")
+    # Standard output that is a file counts with what it has already.
+    for many, status in ((20_475, 0), (20_476, 3)):
+        (place / "appended").write_bytes(bytes(many))
+        with open(place / "appended", "ab") as output:
+            words = [PROGRAM, "read", store, "b"]
+            ended = subprocess.run(words, stdout=output, stderr=subprocess.PIPE, preexec_fn=limited, timeout=SECONDS)
+        written = bytes(many) + (b"" if status else b"short")
+        hold((ended.returncode, (place / "appended").read_bytes()) == (status, written), f"{many}: {ended.returncode} {ended.stderr!r}")
 
 
 def test_limit_on_other_files(place, choose):

@@ -2104,7 +2104,7 @@ def test_sums_given(place, choose):
     """Digests that are of no file of the store are said, and what they cover isn't called unchecked."""
     store, sums, report = place / "summed", place / "sums", place / "report.csv"
     files = lay(store, choose, names=("a",))
-    sums.write_text(f"{digest(b'')}  other\n")
+    sums.write_text(f"{digest(b'')}  other\n{digest(b'')}  elsewhere/other.file\n")
     said = run("scrub", store, "--sums", sums, status=0)
     hold(f"{sums}: names no file of the store" in said, said)
     sums.write_text("".join(f"{digest(data)}  {name}\n" for name, data in files.items()))
