@@ -137,6 +137,8 @@ def test_losses(folder, code, choose):
         (folder / f"f0.{place}").unlink()
     output, errors = run("read", folder, "f0", status=1, text=False)
     check(output == b"" and "don't give the file" in errors, errors)
+    # Both copies say the same, which is tried once.
+    check(all(errors.count(f"f0.{place}: left out") == 1 for place in ("x0", "x1", "x2", "px", "p0")), errors)
     run("encode", folder, folder.with_name(folder.name + "-files") / "f0", "--code", code, status=0)
     check(is_store(folder, code, files), "encoding again didn't bring back what was lost")
 
