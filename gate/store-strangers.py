@@ -364,6 +364,13 @@ def test_links(place, choose):
     source.write_bytes(b"source")
     said = run("encode", store, source, status=0)
     hold("and others are links, 3 in all, and aren't followed without --follow-links\n" in said, said)
+    # Of ten links, one after the other, each is followed.
+    for number in range(10):
+        (outside / f"link{number}").symlink_to(f"link{number + 1}")
+    (store / "b.p1").unlink()
+    (store / "b.p1").symlink_to(outside / "link0")
+    run("repair", store, "--follow-links", status=0)
+    hold((outside / "link9").is_symlink() and (outside / "link10").read_bytes() == files["b.p1"], "ten links weren't followed")
 
 
 def test_rights_of_linked_fragments(place, choose):
@@ -1902,6 +1909,15 @@ def test_lengths_that_nothing_decides(place, choose):
     for name, data in files.items():
         (store / name).write_bytes(data[:300] if name != "s.y1" else data)
     (store / "s.x0").unlink()
+    before = there(store)
+    for words in ([], ["--reads", "all"], ["--replace-damaged"]):
+        said = run("repair", store, *words, status=1)
+        hold("s: its fragments have different lengths" in said and there(store) == before, f"{words}: {said}")
+    # Each group has a length at which its fragments belong together.
+    for name, data in files.items():
+        (store / name).write_bytes(data[:300] if name in ("s.x0", "s.x1", "s.x2", "s.px") else data)
+    for name in ("s.p0", "s.p1"):
+        (store / name).unlink()
     before = there(store)
     for words in ([], ["--reads", "all"], ["--replace-damaged"]):
         said = run("repair", store, *words, status=1)
