@@ -1,6 +1,6 @@
 #!/usr/bin/env python3
-"""Tries runs of rebuild-store that share a store, on each file system that can be mounted here: two at once, what a killed one has left,
-locks and unfinished files that are another host's.
+"""Tries runs of rebuild-store that share a store, on each file system that can be mounted here, and by tables of mounts: two at once, what
+a killed one has left, locks and unfinished files that are another host's.
 
     store-sharing.py [PROGRAM [KIND..]]
 
