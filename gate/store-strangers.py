@@ -1183,6 +1183,18 @@ def test_fragments_that_fail_while_they_are_read(place, choose):
             tried.add(pathlib.Path(ended.paths[0]).name)
             hold(ended.status in (1, 3) and "is this the store?" not in ended.err, ended.text())
     hold(tried >= set(files) - {"s.x0"}, f"only {sorted(tried)} are read")
+    # Eight are left, of which the others are still a check.
+    (store / "SHA256SUMS").unlink()
+    command, failed = [PROGRAM, "repair", store, "--code", "6-2-2", "--reads", "all", "-j", "1"], set()
+    for number, kind in enumerate(calls.run(command).kinds, 1):
+        if kind == "read":
+            (store / "s.x0").unlink(missing_ok=True)
+            ended = calls.run(command, number, errno.EIO, rest="path")
+            name = pathlib.Path(ended.paths[0]).name
+            if name in files:
+                failed.add(name)
+                hold(ended.status == 3 and "as many fragments survive as it takes" not in ended.err, ended.text())
+    hold(failed == set(files) - {"s.x0"}, f"only {sorted(failed)} are read")
 
 
 def test_read_that_fails_once(place, choose):
