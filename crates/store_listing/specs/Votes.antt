@@ -1,5 +1,6 @@
 -- Of which code stripes are by what is at their places, and which code the votes of many say.
-use Rattle.std.specs.Prelude.{◌<◌, ◌≤◌, ◌≡◌, ◌/◌, ◌⊎◌, ◌&&◌, ◌==◌, ℕ, Bool, List, false, true, count_by, if◌then◌else◌, nat_le, nat_lt, slice_index_or}
+use Rattle.std.specs.Prelude.{◌<◌, ◌≤◌, ◌/◌, ◌⊎◌, ◌&&◌, ◌==◌, ℕ, Bool, List, false, true}
+use Rattle.std.specs.Prelude.{count_by, if◌then◌else◌, nat_le, nat_lt, slice_index_or}
 use Rattle.lrc_code.specs.declared.codes.Code.{Code as CodeName}
 use Rattle.lrc_code.specs.declared.codes.Code.TheVariants.{Narrow, Wide}
 use Rattle.lrc_code.specs.Codes.{tables_of}
