@@ -645,6 +645,12 @@ def test_remove(place, choose):
     (store / "a.x1.damaged").unlink()
     hold(are_right(store), "digests of what is gone are left")
     run("scrub", store, status=0)
+    # The digests go also if the last name of the file has none.
+    run("encode", store, source(place, "d", b"d"), status=0)
+    lines = [line for line in (store / "SHA256SUMS").read_text().splitlines(True) if not line.endswith(" d.p1\n")]
+    (store / "SHA256SUMS").write_text("".join(lines))
+    run("remove", store, "d", status=0)
+    hold(are_right(store), "digests of what is gone are left beside a fragment without one")
     run("encode", store, source(place, "c", b"c"), status=0)
     (store / LEFTOVER).write_bytes(b"half")
     calls = Calls(place)
