@@ -57,12 +57,7 @@ impl Listing {
         metadata: &Metadata,
         wanted: &Wanted<'_>,
     ) -> Result<(), AllocError> {
-        if self.foreign.is_none() && may_others_write(metadata) {
-            self.foreign = Some(Foreign {
-                folder: String::from_str(alloc, path)?,
-                user: metadata.uid(),
-            });
-        }
+        self.note_writers(alloc, path, metadata)?;
         let here = Identity::of(metadata);
         for watched in wanted.watched {
             if watched.folder == here {
@@ -75,6 +70,22 @@ impl Listing {
                     self.note_watched(alloc, watched)?;
                 }
             }
+        }
+        Ok(())
+    }
+
+    /// Notes a folder that others than root may write into, if it is the first.
+    pub(crate) fn note_writers(
+        &mut self,
+        alloc: Global,
+        path: &str,
+        metadata: &Metadata,
+    ) -> Result<(), AllocError> {
+        if self.foreign.is_none() && may_others_write(metadata) {
+            self.foreign = Some(Foreign {
+                folder: String::from_str(alloc, path)?,
+                user: metadata.uid(),
+            });
         }
         Ok(())
     }

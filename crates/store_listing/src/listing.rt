@@ -335,7 +335,7 @@ impl Listing {
         }
     }
 
-    /// What the link at a path leads to; its folder is noted.
+    /// What the link at a path leads to; its folder is noted, and who may write there.
     fn look_behind(
         &mut self,
         rt: &HostRuntime,
@@ -345,8 +345,11 @@ impl Listing {
         let metadata = fs::metadata(rt, path.as_str());
         match followed(rt, path) {
             Ok(path) => {
-                self.linked
-                    .insert(String::from_str(alloc, folder_of(path.as_str()))?)?;
+                let folder = String::from_str(alloc, folder_of(path.as_str()))?;
+                if let Ok(there) = fs::metadata(rt, folder.as_str()) {
+                    self.note_writers(alloc, folder.as_str(), &there)?;
+                }
+                self.linked.insert(folder)?;
             }
             Err(error) if error.kind() == ErrorKind::OutOfMemory => return Err(AllocError),
             Err(_) => {}
