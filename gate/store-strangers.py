@@ -371,6 +371,15 @@ def test_links(place, choose):
     (store / "b.p1").symlink_to(outside / "link0")
     run("repair", store, "--follow-links", status=0)
     hold((outside / "link9").is_symlink() and (outside / "link10").read_bytes() == files["b.p1"], "ten links weren't followed")
+    # The folder that the last one leads to is one of those that are written into.
+    (outside / "link10").unlink()
+    if is_root():
+        outside.chmod(0o777)
+        said = run("repair", store, "--follow-links", status=2)
+        hold(f"{outside}: user 0 or others may write there" in said and not (outside / "link10").exists(), said)
+        outside.chmod(0o755)
+    run("repair", store, "--follow-links", status=0)
+    hold((outside / "link10").read_bytes() == files["b.p1"], "a link wasn't followed where others may not write")
 
 
 def test_rights_of_linked_fragments(place, choose):
