@@ -492,6 +492,18 @@ def test_replacement_through_a_link(place, choose):
     hold(set(there(outside)) == {"a", "a.file"}, f"left {sorted(there(outside))}")
 
 
+def test_replacement_that_cannot_be_begun(place, choose):
+    """Of a file that can't be replaced, since files may not get as long here, no folder is left in which it was to be."""
+    names = ["--names", "{stripe}/{place}"]
+    store, old = place / "store", b"old"
+    run("encode", "--make-folders", *names, store, source(place, "a", old), status=0)
+    before = sorted(store.rglob("*"))
+    ended = ran("encode", "--replace", *names, store, source(place, "a", bytes(300_000)),
+                preexec_fn=lambda: resource.setrlimit(resource.RLIMIT_FSIZE, (20_480, 20_480)))
+    hold(ended.returncode == 1 and b"ulimit -f" in ended.stderr, f"{ended.returncode}: {ended.stderr!r}")
+    hold(sorted(store.rglob("*")) == before and decoded(store, "a", *names[1:]) == old, f"left {sorted(store.rglob('*'))}")
+
+
 def test_digests_of_blocks_that_fail(place, choose):
     """A file of whose fragments one can't be read again, for its digest, isn't encoded, also where only its first block can't be read."""
     calls, store, file = Calls(place), place / "store", source(place, "a", choose.randbytes(6 * 300_000))
@@ -662,7 +674,7 @@ def test_remove(place, choose):
     (store / "b.p1").unlink()
     (store / "b.p1").mkdir()
     _, err = run("remove", store, "b", status=1)
-    hold("b.p1: is no regular file, and isn't removed" in err and (store / "b.p1").is_dir(), err)
+    hold("b.p1: is no regular file, and isn't removed" in err and [*store.glob("b.*")] == [store / "b.p1"], err)
     run("list", store, status=0)
 
 

@@ -69,10 +69,10 @@ fn finish_staged(
         links: target.links,
         progress: None,
     };
-    if !is_begun(rt, &file, target.code)? {
-        return Ok(());
+    if is_begun(rt, &file, target.code)? {
+        replace_files(rt, target, &file, name)?;
     }
-    replace_files(rt, target, &file, name)?;
+    // Also where nothing was begun: its folders are made first.
     Ok(remove_own_folders(rt, target, staged, name)?)
 }
 
