@@ -15,7 +15,7 @@ use crate::encoding::subfolders::make_folders;
 use crate::encoding::sums::{forget_digests, write_new_sums};
 use crate::encoding::{Given, encode_as};
 use crate::own_folders::remove_own_folders;
-use crate::removing::remove_names;
+use crate::removing::{has_any, remove_names};
 use folders::Folder;
 use std::alloc::{AllocError, Global};
 use std::slice;
@@ -86,7 +86,8 @@ fn replace_files(
     let alloc = rt.alloc();
     let mut begun = StripeFiles::of(alloc, target, file.name)?;
     let mut replaced = StripeFiles::of(alloc, target, name)?;
-    match add_own_description(rt, target, file.name, name, &mut begun, &mut replaced) {
+    let added = add_own_description(rt, target, file.name, name, &mut begun, &mut replaced);
+    match added.and_then(|()| add_lost_descriptions(rt, target, &mut begun, &mut replaced)) {
         Ok(()) => replace_begun(rt, target, file, name, &begun, &replaced),
         Err(fault) => Err(fault),
     }
@@ -107,6 +108,25 @@ fn add_own_description(
         replaced.fragments.push(own)?;
         let other = first_description_name(rt.alloc(), staged)?;
         begun.fragments.push(other)?;
+    }
+    Ok(())
+}
+
+/// Adds the names of the descriptions that are lost of a stripe which is to replace another one, each beside that of the old one, which then
+/// goes as an old fragment does whose new one was lost: beside the new fragments it would say another file than they give.
+fn add_lost_descriptions(
+    rt: &HostRuntime,
+    target: &Target<'_>,
+    begun: &mut StripeFiles,
+    replaced: &mut StripeFiles,
+) -> Result<(), FileFault> {
+    let alloc = rt.alloc();
+    for (name, other) in begun.descriptions.iter().zip(replaced.descriptions.iter()) {
+        if !has_any(rt, target, slice::from_ref(name))? {
+            let (lost, old) = (name.as_str(), other.as_str());
+            begun.fragments.push(String::from_str(alloc, lost)?)?;
+            replaced.fragments.push(String::from_str(alloc, old)?)?;
+        }
     }
     Ok(())
 }
