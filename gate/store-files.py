@@ -467,6 +467,13 @@ def test_replacement_by_one_description(place, choose):
         _, err = run("encode", store, source(place, "a", old), status=1)
         hold("is there already" in err and run("read", store, "a", status=0)[0] == new, f"the new file was thrown away: {err}")
         hold(not [it for it in there(store) if STAGED in it], sorted(there(store)))
+        if odd is None:
+            # The old description isn't left beside the new fragments, so that a repair makes the new one.
+            hold("a.file" not in there(store), "a description of the old file is left")
+            run("repair", store, "--replace-damaged", status=0)
+            files = there(store)
+            hold(files["a.file"] == files["a.file.copy"] and run("read", store, "a", status=0)[0] == new, "the new file can't be read")
+            run("scrub", store, status=0)
         shutil.rmtree(store)
 
 
