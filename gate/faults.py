@@ -3,6 +3,7 @@
 import collections
 import dataclasses
 import errno
+import multiprocessing
 import os
 import pathlib
 import struct
@@ -120,6 +121,25 @@ def only(how, *kinds):
     return lambda kind: [how] if kind in kinds else []
 
 
+# What is called in the processes of a `Processes`.
+called = None
+
+
+def call(item):
+    return called(item)
+
+
+class Processes:
+    """Calls a function for each of some items, in a process for each processor: threads of one Python wait for each other."""
+
+    @staticmethod
+    def map(function, items):
+        global called
+        called = function
+        with multiprocessing.get_context("fork").Pool() as pool:
+            return pool.map(call, items)
+
+
 def walk(pool, trial, hows, rest="", needed=frozenset()):
     """Has calls of a run fail, each in a run of its own: `hows` gives the ways for a kind. Says how many there were of each kind."""
     kinds = trial.kinds()
@@ -132,9 +152,11 @@ def walk(pool, trial, hows, rest="", needed=frozenset()):
         try:
             trial.turn(*turn, rest)
         except Fault as fault:
-            faults[str(fault).split(":")[0]].append(str(fault))
+            return str(fault)
+        return None
 
-    list(pool.map(one, turns))
+    for fault in filter(None, pool.map(one, turns)):
+        faults[fault.split(":")[0]].append(fault)
     said = collections.Counter(kinds[number - 1] for number, _ in turns)
     shown = ", ".join(f"{count} {kind}" for kind, count in sorted(said.items()))
     print(f"faults: {' '.join(trial.words)}: {len(turns)} runs with a fault in one call{LATER[rest]}: {shown}", flush=True)

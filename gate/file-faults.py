@@ -7,7 +7,6 @@ run is killed just before it, and each allocation is refused.
 After each fault of `encode` every name has all of its bytes or isn't there, a file's description is there after its fragments alone, and
 the same command again ends the work and leaves nothing behind. `read` never writes a byte that isn't the file's."""
 
-import concurrent.futures
 import dataclasses
 import errno
 import functools
@@ -20,13 +19,13 @@ import shutil
 import signal
 import sys
 import tempfile
-import threading
 
 # No compiled copy of the modules is left beside them.
 sys.dont_write_bytecode = True
 sys.path.append(str(pathlib.Path(__file__).resolve().parent.parent / "tools"))
 import refusals  # noqa: E402
-from faults import LATER, READ_KINDS, ROOT, Calls, Fault, all_ways, errors_of, files_of, finished, hold, lay, only, walk  # noqa: E402
+from faults import LATER, READ_KINDS, ROOT, Calls, Fault, Processes, all_ways  # noqa: E402
+from faults import errors_of, files_of, finished, hold, lay, only, walk  # noqa: E402
 from reference import CODES, product  # noqa: E402
 from store import combined, stripe  # noqa: E402
 
@@ -118,7 +117,7 @@ class Turns:
         self.calls, self.name, self.numbers = calls, name, itertools.count()
 
     def new(self):
-        return self.calls.folder / f"{self.name}-{threading.get_ident()}-{next(self.numbers)}"
+        return self.calls.folder / f"{self.name}-{os.getpid()}-{next(self.numbers)}"
 
 
 def is_no_fault(kind, how):
@@ -290,7 +289,8 @@ def main():
     shared = pathlib.Path("/dev/shm")
     place = shared if shared.is_dir() and os.access(shared, os.W_OK) else None
     faults = []
-    with tempfile.TemporaryDirectory(dir=place) as scratch, concurrent.futures.ThreadPoolExecutor(os.cpu_count()) as pool:
+    pool = Processes()
+    with tempfile.TemporaryDirectory(dir=place) as scratch:
         folder = pathlib.Path(scratch)
         encoding, reading = Encoding(Calls(folder), files), Reading(Calls(folder), encoded, "long")
         (folder / "refused").mkdir()

@@ -7,7 +7,6 @@ own, by fail-call.c, which is preloaded, or the run is killed just before it; an
 It runs what was built last. After each fault every name has all of its bytes or isn't there, the stripes that the fault didn't meet are
 repaired, a line names the file and the fault, and the same command again makes the store whole and leaves nothing behind."""
 
-import concurrent.futures
 import dataclasses
 import errno
 import itertools
@@ -20,13 +19,12 @@ import signal
 import subprocess
 import sys
 import tempfile
-import threading
 
 # No compiled copy of the modules is left beside them.
 sys.dont_write_bytecode = True
 sys.path.append(str(pathlib.Path(__file__).resolve().parent.parent / "tools"))
 import refusals  # noqa: E402
-from faults import LATER, READ_KINDS, ROOT, Calls, Ended, Fault, all_ways  # noqa: E402
+from faults import LATER, READ_KINDS, ROOT, Calls, Ended, Fault, Processes, all_ways  # noqa: E402
 from faults import errors_of, files_of, finished, hold, lay, only, walk  # noqa: E402
 from store import stripe  # noqa: E402
 
@@ -115,7 +113,7 @@ class Trial:
 
     def in_folder(self, do):
         """Does something with a folder that has the store anew, and takes it away."""
-        place = self.calls.folder / f"turn-{'-'.join(self.words)}-{threading.get_ident()}-{next(self.turns)}"
+        place = self.calls.folder / f"turn-{'-'.join(self.words)}-{os.getpid()}-{next(self.turns)}"
         self.store.lay(place)
         try:
             return do(place)
@@ -241,7 +239,7 @@ class Refused:
         if self.store is None:
             ran = self.library.run([PROGRAM, *self.words], refusal=refusal)
             return ran, self.kind(ran, refusal, (ran.status, ran.out, ran.err) == (self.wanted.status, self.wanted.out, self.wanted.err))
-        folder = self.library.folder / f"refused-{threading.get_ident()}-{next(self.turns)}"
+        folder = self.library.folder / f"refused-{os.getpid()}-{next(self.turns)}"
         self.store.lay(folder)
         try:
             return self.in_folder(folder, refusal)
@@ -329,7 +327,8 @@ def main():
     shared = pathlib.Path("/dev/shm")
     place = shared if shared.is_dir() and os.access(shared, os.W_OK) else None
     faults = []
-    with tempfile.TemporaryDirectory(dir=place) as scratch, concurrent.futures.ThreadPoolExecutor(os.cpu_count()) as pool:
+    pool = Processes()
+    with tempfile.TemporaryDirectory(dir=place) as scratch:
         folder = pathlib.Path(scratch)
         for part in parts(pool, folder, store_of("6-2-2", choose, False), store_of("6-2-2", choose, True)):
             try:
