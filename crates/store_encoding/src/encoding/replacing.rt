@@ -112,8 +112,8 @@ fn add_own_description(
     Ok(())
 }
 
-/// Adds the names of the descriptions that are lost of a stripe which is to replace another one, each beside that of the old one, which then
-/// goes as an old fragment does whose new one was lost: beside the new fragments it would say another file than they give.
+/// Adds the names of the descriptions that are lost of a stripe which is to replace another one, each beside that of the old one. That
+/// goes then as an old fragment does whose new one was lost: beside the new fragments it would say another file than they give.
 fn add_lost_descriptions(
     rt: &HostRuntime,
     target: &Target<'_>,
