@@ -166,11 +166,11 @@ try-ceph-releases: store
 
 # What the gate runs after the proofs, over the programs and tests that they leave in each crate's out/. No two of these share a file
 # that one of them writes, so several run at once, first those that take long.
-AFTER := ceph/test.sh $(addprefix gate/,store-faults.py file-faults.py refusals.py store-strangers.py store-files.py) tools/try.sh \
-  $(addprefix gate/,store-damage.py packages.sh store-watching.py store-sharing.py repair-store.py encode-store.py store-life.py \
-  store-options.py store-arguments.py store-results.py store-names.py store-records.py store-disks.py no-compile.py reference-lines.sh \
-  line-mode.py answers.py codes.py arguments.py lists.py farm-folders.py farm-calls.py farm-batches.py farm-shelves.py ends.sh \
-  examples.py manual.sh completions.sh install.sh version.sh numbers.py tables.py growth.py memory.py) tools/demo.sh
+AFTER := ceph/test.sh $(addprefix gate/,store-faults.py file-faults.py refusals.py store-strangers.py store-files.py store-damage.py \
+  packages.sh store-watching.py store-sharing.py repair-store.py encode-store.py store-life.py store-options.py store-arguments.py \
+  store-results.py store-names.py store-records.py store-disks.py no-compile.py reference-lines.sh line-mode.py answers.py codes.py \
+  arguments.py lists.py farm-folders.py farm-calls.py farm-batches.py farm-shelves.py ends.sh examples.py manual.sh completions.sh \
+  install.sh version.sh numbers.py tables.py growth.py memory.py) tools/demo.sh
 
 # What it runs before them, of sources and pages; none of these writes a file of the repository.
 BEFORE := $(addprefix gate/,formatted.sh wrong-bodies.sh architecture.py sweep.py documented.py pages.py sentences.py messages.py \
@@ -185,12 +185,15 @@ test:
 	@tools/timed.py table
 
 # A proof was seen to take 3 GB at most, less than rt allows for, so RT_JOBS has it run one on each processor, and two more, so that the
-# longest chain of crates doesn't wait while tests are proved, which give way to it. gate/library.sh builds in a copy of its own, over
-# crates of which lrc_plan is proved last, gate/refused.py tries edits over those below farm_files and some of them, and gate/companion.py
-# needs the program `rebuild` alone, so these run beside the proofs from then on, and beside the scripts that come after them.
+# longest chain of crates doesn't wait while tests are proved, which give way to it. ceph/tests/rebuild-ceph.py and tools/try.sh need nothing
+# that is proved, so they take what the first proofs leave of the processors, of which few can begin; list_members is proved in half a
+# minute. gate/library.sh builds in a copy of its own, over crates of which lrc_plan is proved last, gate/refused.py tries edits over those
+# below farm_files and some of them, and gate/companion.py needs the program `rebuild` alone, so these run beside the proofs from then on,
+# and beside the scripts that come after them.
 proofs:
 	tools/build.py settle
-	RT_JOBS=$(shell expr $$(nproc) + 2) tools/timed.py proofs --beside lrc_plan gate/library.sh --beside farm_files gate/refused.py \
+	RT_JOBS=$(shell expr $$(nproc) + 2) tools/timed.py proofs --beside list_members ceph/tests/rebuild-ceph.py \
+	  --beside list_members tools/try.sh --beside lrc_plan gate/library.sh --beside farm_files gate/refused.py \
 	  --beside rebuild gate/companion.py \
 	  --then 'make --no-print-directory --output-sync=target -j$(shell nproc) after' rt ci
 

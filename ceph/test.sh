@@ -5,11 +5,10 @@
 #   answered with an error; each allocation refused in turn; threads at once, also under the thread sanitizer; where the plugin says what is
 #   wrong; the least reads; words and releases that are refused; the table of calls, and what odd calls do, beside shipped plugins;
 #   `make install-ceph` and `make uninstall-ceph`
-# rebuild-ceph, which needs none of this, is tried before.
+# rebuild-ceph, which needs none of this, is tried by ceph/tests/rebuild-ceph.py.
 # All is built in a copy of the repository, with what the proofs have left: the gate's other scripts run beside this one.
 set -euo pipefail
 cd "$(dirname "$0")/.."
-ceph/tests/rebuild-ceph.py
 library=/usr/lib/x86_64-linux-gnu/ceph/libceph-common.so.2
 compiler=${CXX:-g++}
 if ! command -v "$compiler" > /dev/null || [ ! -e "$library" ] ||

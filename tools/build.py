@@ -14,9 +14,10 @@ too. So a level that was built before isn't built again.
 Crates are proved beside each other, each as soon as those that it uses are there. The two with the longest ways to the end, by the time
 that their lines take, have half of the processors each, and the others one each at a lower priority: with more jobs a proof takes more of
 the processors in all (lrc_field 138 s with one, 152 with two, 202 with four), and at much lower priorities what a crate of the longest way
-uses too is late. Where no more than two can be proved, the first has all. One more is proved than there are processors, so that a crate on
-a long way doesn't wait for one on a short way. A crate whose sources, and those of the crates below it, are as they were when it was proved
-is not proved again, and a build that was interrupted goes on where it was.
+uses too is late. Where no more than two can be proved, or what else doesn't wait for the first takes less than it, the first has all. One
+more is proved than there are processors, so that a crate on a long way doesn't wait for one on a short way. A crate whose sources, and
+those of the crates below it, are as they were when it was proved is not proved again, and a build that was interrupted goes on where it
+was.
 
 `rt` locks every crate that it reads, so two crates above a third can't be proved at once in one place. So each is proved in a room
 of its own below out/: a copy of its sources and of those below it, with the libraries below it as hard links."""
@@ -397,6 +398,11 @@ class Build:
         for it in reversed(crates):
             self.way[it] = it.proof_seconds() + max((self.way[above] for above in crates if it in above.below), default=0)
 
+    def beside(self, crate):
+        """The seconds of a processor that the crates still take which don't wait for this one, about."""
+        waiting = sum(it.proof_seconds() for it in self.left if it is not crate and crate not in it.all_below())
+        return waiting + sum(max(it.crate.proof_seconds() - it.seconds(), 0) for it in self.running)
+
     def start_all(self):
         """Starts each crate whose libraries are there, as far as processors and memory go."""
         ready = [it for it in self.left if all(below in self.done for below in it.below)]
@@ -407,7 +413,8 @@ class Build:
             if self.running and (free < FIRST or len(self.running) >= self.jobs + MORE):
                 return
             # On two processors the first has both, as it has all where few are left.
-            share = max(self.jobs // 2, 2 - rank) if are_many else self.jobs // 2**rank
+            is_last = rank == 0 and self.beside(crate) < crate.proof_seconds()
+            share = max(self.jobs // 2, 2 - rank) if are_many and not is_last else self.jobs // 2**rank
             jobs = min(max(share, 1) if rank < MOST_RANK else 1, self.jobs, MOST_JOBS, 1 + int(max(free - FIRST, 0) // FURTHER))
             lock = lock_of(crate.folder)
             if lock is None:

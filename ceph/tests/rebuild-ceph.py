@@ -1,7 +1,7 @@
 #!/usr/bin/env python3
 """Tries rebuild-ceph over folders that stand for stopped OSDs, by stopped.py in the place of ceph-objectstore-tool: names, both layouts,
 what is there already, shards that were changed or are of another write, hosts one after the other, what was written between export and put,
-and runs that are killed. ceph/test.sh runs it; ceph/tests/store.sh tries the command on OSDs.
+and runs that are killed. It is of the gate; ceph/tests/store.sh tries the command on OSDs.
 
     rebuild-ceph.py            all tests
     rebuild-ceph.py TEST ..    these, as `hosts`
