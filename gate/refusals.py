@@ -67,7 +67,7 @@ TESTS = [
     Tried("farm_tests", "two_workers_answer_six_feeds", 9),
     Tried("farm_tests", "collector_takes_its_room"),
     Tried("farm_lists_tests", "three_threads_make_the_known_digest", 2, is_exact=True, passes=True),
-    Tried("store_repair_tests", "each_name_is_as_it_was_or_rebuilt"),
+    Tried("store_tests", "each_name_is_as_it_was_or_rebuilt"),
 ]
 
 # Limits of address space, in KiB: from where the program is hardly loaded to where all of its threads have room.
