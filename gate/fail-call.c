@@ -6,7 +6,8 @@
  * it was; with `wait` the program makes the file FAIL_REACHED and goes on when FAIL_UNTIL is there, so that others come between. With
  * `slow` each read takes FAIL_NUMBER milliseconds more, as one from a slow disk, and no call fails.
  * FAIL_REST=kind has all later calls of its kind answer that error too, and FAIL_REST=path those of them at its path. Counting begins with
- * `main`. The file FAIL_RECORD gets what `struct record` has; it is mapped, so it is right however the program ends. */
+ * `main`. The file FAIL_RECORD gets what `struct record` has; it is mapped, so it is right however the program ends. Many runs may share a
+ * start: fork-runs.h. */
 #define _GNU_SOURCE
 #include <dirent.h>
 #include <dlfcn.h>
@@ -24,6 +25,8 @@
 #include <sys/stat.h>
 #include <sys/uio.h>
 #include <unistd.h>
+
+#include "fork-runs.h"
 
 enum { MOST_CALLS = 4096, MOST_KIND = 8, MOST_PATH = 4096 };
 
@@ -44,7 +47,14 @@ static enum how how;
 static int error_number;
 static enum { NONE, ALL_OF_KIND, ALL_AT_PATH } fails_later;
 
-#define SYSTEM(name) ((typeof(name) *)next(#name))
+/* The system's function of this name, which is looked up once in each place that calls it. */
+#define SYSTEM(name)                                \
+    ({                                              \
+        static typeof(name) *found;                 \
+        if (found == NULL)                          \
+            found = (typeof(name) *)next(#name);    \
+        found;                                      \
+    })
 
 static void *next(const char *name)
 {
@@ -61,43 +71,6 @@ static void wait_for_others(void)
         usleep(10000);
 }
 
-/* Whether a call is the one that is to fail, or a later one of its kind where those fail too. A killed program ends here. */
-static int is_chosen(const char *kind, const char *path, const char *other)
-{
-    if (atomic_load(&record->counts) == 0)
-        return 0;
-    if (how == SLOW) {
-        if (strcmp(kind, "read") == 0)
-            usleep((useconds_t)(number * 1000));
-        return 0;
-    }
-    uint64_t own = atomic_fetch_add(&record->calls, 1) + 1;
-    if (own <= MOST_CALLS)
-        memcpy(record->kinds[own - 1], kind, strnlen(kind, MOST_KIND));
-    if (number == 0 || own < number)
-        return 0;
-    if (own > number)
-        return fails_later && number <= MOST_CALLS && strncmp(kind, record->kinds[number - 1], MOST_KIND) == 0 &&
-               (fails_later == ALL_OF_KIND || strcmp(path, record->path) == 0);
-    snprintf(record->path, MOST_PATH, "%s%s%s", path, other == NULL ? "" : "\n", other == NULL ? "" : other);
-    atomic_fetch_add(&record->failed, 1);
-    if (how == KILL) {
-        kill(getpid(), SIGKILL);
-        pause();
-    }
-    if (how == WAIT)
-        wait_for_others();
-    return 1;
-}
-
-static int fails(const char *kind, const char *path, const char *other)
-{
-    if (!is_chosen(kind, path, other) || how != ERROR)
-        return 0;
-    errno = error_number;
-    return 1;
-}
-
 /* The path at which a file was opened. */
 static const char *path_of(int file, char *room, size_t size)
 {
@@ -108,17 +81,71 @@ static const char *path_of(int file, char *room, size_t size)
     return room;
 }
 
+/* A call that may fail: the path that it was given, of two both, or else the file that it was given. */
+struct call {
+    const char *kind, *path, *other;
+    int file;
+};
+
+/* Whether the call of this number, the one that is to fail or a later one, fails. A killed program ends here. */
+static int is_met(uint64_t own, const struct call *call)
+{
+    char room[MOST_PATH - 1];
+    const char *path = call->path == NULL ? path_of(call->file, room, sizeof room) : call->path;
+    if (own > number)
+        return number <= MOST_CALLS && strncmp(call->kind, record->kinds[number - 1], MOST_KIND) == 0 &&
+               (fails_later == ALL_OF_KIND || strcmp(path, record->path) == 0);
+    snprintf(record->path, MOST_PATH, "%s%s%s", path, call->other == NULL ? "" : "\n", call->other == NULL ? "" : call->other);
+    atomic_fetch_add(&record->failed, 1);
+    if (how == KILL) {
+        kill(getpid(), SIGKILL);
+        pause();
+    }
+    if (how == WAIT)
+        wait_for_others();
+    return 1;
+}
+
+/* Whether a call is the one that is to fail, or a later one of its kind where those fail too: of these alone files' paths are looked up. */
+static int is_chosen(const struct call *call)
+{
+    if (atomic_load(&record->counts) == 0)
+        return 0;
+    if (how == SLOW) {
+        if (strcmp(call->kind, "read") == 0)
+            usleep((useconds_t)(number * 1000));
+        return 0;
+    }
+    uint64_t own = atomic_fetch_add(&record->calls, 1) + 1;
+    if (own <= MOST_CALLS)
+        memcpy(record->kinds[own - 1], call->kind, strnlen(call->kind, MOST_KIND));
+    if (number == 0 || own < number || (own > number && fails_later == NONE))
+        return 0;
+    return is_met(own, call);
+}
+
+static int fails_call(const struct call *call)
+{
+    if (!is_chosen(call) || how != ERROR)
+        return 0;
+    errno = error_number;
+    return 1;
+}
+
+static int fails(const char *kind, const char *path, const char *other)
+{
+    return fails_call(&(struct call){.kind = kind, .path = path, .other = other});
+}
+
 static int fails_at(const char *kind, int file)
 {
-    char room[MOST_PATH];
-    return fails(kind, path_of(file, room, sizeof room), NULL);
+    return fails_call(&(struct call){.kind = kind, .file = file});
 }
 
 /* How many of a call's bytes are to be taken, or none where it fails. */
 static ssize_t taken(const char *kind, int file, size_t size)
 {
-    char room[MOST_PATH];
-    if (!is_chosen(kind, path_of(file, room, sizeof room), NULL))
+    if (!is_chosen(&(struct call){.kind = kind, .file = file}))
         return (ssize_t)size;
     if (how == SHORT)
         return (ssize_t)(size > 1 ? size / 2 : size);
@@ -202,9 +229,8 @@ ssize_t getdents64(int folder, void *bytes, size_t size)
 
 int statx(int folder, const char *path, int flags, unsigned mask, struct statx *about)
 {
-    char room[MOST_PATH];
-    const char *named = *path ? path : path_of(folder, room, sizeof room);
-    return fails("look", named, NULL) ? -1 : SYSTEM(statx)(folder, path, flags, mask, about);
+    int is_failing = *path ? fails("look", path, NULL) : fails_at("look", folder);
+    return is_failing ? -1 : SYSTEM(statx)(folder, path, flags, mask, about);
 }
 
 int flock(int file, int operation)
@@ -280,6 +306,41 @@ int symlink(const char *to, const char *path)
     return fails("symlink", path, NULL) ? -1 : SYSTEM(symlink)(to, path);
 }
 
+static const char *text_of(const char *name)
+{
+    const char *text = getenv(name);
+    return text == NULL ? "" : text;
+}
+
+static void read_how(const char *text)
+{
+    static const char *const ways[] = {[KILL] = "kill", [SHORT] = "short", [MEANWHILE] = "meanwhile",
+                                       [UNSYNCED] = "unsynced", [WAIT] = "wait", [SLOW] = "slow"};
+    how = ERROR;
+    for (enum how way = KILL; way <= SLOW; way++)
+        if (strcmp(text, ways[way]) == 0)
+            how = way;
+    error_number = atoi(text);
+}
+
+static void read_settings(void)
+{
+    number = strtoull(text_of("FAIL_NUMBER"), NULL, 10);
+    const char *rest = text_of("FAIL_REST");
+    fails_later = strcmp(rest, "kind") == 0 ? ALL_OF_KIND : strcmp(rest, "path") == 0 ? ALL_AT_PATH : NONE;
+    read_how(text_of("FAIL_HOW"));
+}
+
+__attribute__((constructor)) static void prepare(void)
+{
+    int file = SYSTEM(openat)(AT_FDCWD, text_of("FAIL_RECORD"), O_RDWR | O_CLOEXEC);
+    void *mapped = file == -1 ? MAP_FAILED : mmap(NULL, sizeof unmapped, PROT_READ | PROT_WRITE, MAP_SHARED, file, 0);
+    if (mapped == MAP_FAILED)
+        _exit(99);
+    close(file);
+    record = mapped;
+}
+
 static int (*program_main)(int, char **, char **);
 
 static int counting_main(int count, char **words, char **environment)
@@ -295,45 +356,7 @@ int __libc_start_main(int (*main)(int, char **, char **), int count, char **word
 {
     start *system_start = (start *)next("__libc_start_main");
     program_main = main;
+    fork_runs(&count, &words);
+    read_settings();
     return system_start(counting_main, count, words, begin, end, end_loader, stack);
-}
-
-static const char *text_of(const char *name)
-{
-    const char *text = getenv(name);
-    return text == NULL ? "" : text;
-}
-
-static void read_how(const char *text)
-{
-    if (strcmp(text, "kill") == 0)
-        how = KILL;
-    else if (strcmp(text, "short") == 0)
-        how = SHORT;
-    else if (strcmp(text, "meanwhile") == 0)
-        how = MEANWHILE;
-    else if (strcmp(text, "unsynced") == 0)
-        how = UNSYNCED;
-    else if (strcmp(text, "wait") == 0)
-        how = WAIT;
-    else if (strcmp(text, "slow") == 0)
-        how = SLOW;
-    else
-        error_number = atoi(text);
-}
-
-__attribute__((constructor)) static void prepare(void)
-{
-    int file = SYSTEM(openat)(AT_FDCWD, text_of("FAIL_RECORD"), O_RDWR | O_CLOEXEC);
-    void *mapped = file == -1 ? MAP_FAILED : mmap(NULL, sizeof unmapped, PROT_READ | PROT_WRITE, MAP_SHARED, file, 0);
-    if (mapped == MAP_FAILED)
-        _exit(99);
-    close(file);
-    record = mapped;
-    number = strtoull(text_of("FAIL_NUMBER"), NULL, 10);
-    if (strcmp(text_of("FAIL_REST"), "kind") == 0)
-        fails_later = ALL_OF_KIND;
-    if (strcmp(text_of("FAIL_REST"), "path") == 0)
-        fails_later = ALL_AT_PATH;
-    read_how(text_of("FAIL_HOW"));
 }

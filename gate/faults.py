@@ -1,14 +1,17 @@
 """What the scripts share that fail calls of a program, each in a run of its own, by fail-call.c: the runs, and the walk over all calls."""
 
 import collections
+import contextlib
 import dataclasses
 import errno
+import functools
 import multiprocessing
 import os
 import pathlib
 import struct
 import subprocess
-import tempfile
+
+import runs
 
 ROOT = pathlib.Path(__file__).resolve().parent.parent
 SECONDS = 20
@@ -36,74 +39,90 @@ def hold(holds, what):
 
 @dataclasses.dataclass(frozen=True)
 class Ended:
-    """How a run ended, the kinds of its calls, how many failed, and the kind and the paths of the first of these."""
+    """How a run ended, and what fail-call.c recorded of it, in which the call of this number was to fail."""
 
     status: int
     out: str
     err: str
-    kinds: list = ()
-    failed: int = 0
-    kind: str = ""
-    paths: tuple = ()
+    record: bytes = b""
+    number: int = 0
+
+    @property
+    def failed(self):
+        """How many calls failed."""
+        return COUNTS.unpack_from(self.record)[2]
+
+    def kind_of(self, number):
+        at = COUNTS.size + KIND * (number - 1)
+        return self.record[at : at + KIND].rstrip(b"\0").decode()
+
+    @functools.cached_property
+    def kinds(self):
+        """The kinds of its calls, in their order."""
+        return [self.kind_of(number) for number in range(1, COUNTS.unpack_from(self.record)[1] + 1)]
+
+    @functools.cached_property
+    def kind(self):
+        """That of the first one that failed."""
+        return self.kind_of(self.number) if self.record and self.failed else ""
+
+    @functools.cached_property
+    def paths(self):
+        """Its paths."""
+        return tuple(self.record[-MOST_PATH:].split(b"\0")[0].decode(errors="replace").split("\n")) if self.record else ()
 
     def text(self):
         return f"status {self.status}: {self.out[-300:]!r} {self.err[-600:]!r}"
 
 
 class Calls:
-    """fail-call.c, built into a folder."""
+    """fail-call.c, built into a folder. With `forks` the runs of a program share a start."""
 
-    def __init__(self, folder):
+    def __init__(self, folder, forks=False):
         self.folder = folder
         self.file = folder / "fail-call.so"
         compiler = os.environ.get("CC", "gcc")
         flags = ["-O2", "-Wall", "-shared", "-fPIC"]
         subprocess.run([compiler, *flags, "-o", self.file, ROOT / "gate/fail-call.c"], check=True)
+        self.library = runs.Preloaded(self.file, "FAIL_RECORD", RECORD_SIZE, forks)
 
-    def run(self, words, number=0, how="", rest="", output=subprocess.PIPE):
+    def run(self, words, number=0, how="", rest="", output=None):
         """Runs the program to its end, where the call of this number fails in this way."""
-        with tempfile.NamedTemporaryFile(dir=self.folder) as record:
-            record.truncate(RECORD_SIZE)
-            preloaded = {"LD_PRELOAD": str(self.file), "FAIL_RECORD": record.name, "FAIL_NUMBER": str(number), "FAIL_HOW": str(how),
-                         "FAIL_REST": rest}
-            ran = finished(words, output, preloaded)
-            data = record.read()
-        counts, calls, failed = COUNTS.unpack_from(data)
+        settings = {"FAIL_NUMBER": str(number), "FAIL_HOW": str(how), "FAIL_REST": rest}
+        with ending(words):
+            ran = self.library.run([str(it) for it in words], settings, SECONDS, output=output)
+        counts, calls, _ = COUNTS.unpack_from(ran.record)
         hold(counts == 1, f"nothing counted the calls of {words[0]}")
         hold(calls <= MOST_CALLS, f"{words[0]} makes {calls} calls")
-        starts = range(COUNTS.size, COUNTS.size + KIND * calls, KIND)
-        kinds = [data[at : at + KIND].rstrip(b"\0").decode() for at in starts]
-        paths = data[-MOST_PATH:].split(b"\0")[0].decode(errors="replace").split("\n")
-        return dataclasses.replace(ran, kinds=kinds, failed=failed, kind=kinds[number - 1] if failed else "", paths=tuple(paths))
-
-
-def files_of(folder):
-    """The bytes of the files in a folder by their names; tens of thousands of folders are looked at, so nothing more is asked of each."""
-    found = {}
-    with os.scandir(folder) as entries:
-        for entry in entries:
-            with open(entry.path, "rb", buffering=0) as file:
-                found[entry.name] = file.read()
-    return found
+        return Ended(ran.status, ran.out.decode(errors="replace"), ran.err.decode(errors="replace"), ran.record, number)
 
 
 def lay(folder, files, mode=0o666):
     """Makes files in a folder that is there."""
     for name, data in files.items():
-        with open(os.open(f"{folder}/{name}", os.O_WRONLY | os.O_CREAT | os.O_TRUNC, mode), "wb", buffering=0) as file:
-            file.write(data)
+        file = os.open(f"{folder}/{name}", os.O_WRONLY | os.O_CREAT | os.O_TRUNC, mode)
+        try:
+            hold(os.write(file, data) == len(data), f"{folder} has no room for {name}")
+        finally:
+            os.close(file)
 
 
-def finished(words, output=subprocess.PIPE, environment=None, **how):
-    """Runs a program to its end."""
+@contextlib.contextmanager
+def ending(words):
+    """Says that a program isn't built or doesn't end."""
     try:
-        ran = subprocess.run([str(it) for it in words], stdin=subprocess.DEVNULL, stdout=output, stderr=subprocess.PIPE, timeout=SECONDS,
-                             env=environment, **how)
+        yield
     except FileNotFoundError:
         raise Fault(f"{words[0]} is not built: make store does it") from None
     except subprocess.TimeoutExpired:
         raise Fault(f"{words} had not ended after {SECONDS} seconds") from None
-    return Ended(ran.returncode, (ran.stdout or b"").decode(errors="replace"), ran.stderr.decode(errors="replace"))
+
+
+def finished(words):
+    """Runs a program to its end."""
+    with ending(words):
+        ran = subprocess.run([str(it) for it in words], stdin=subprocess.DEVNULL, capture_output=True, timeout=SECONDS)
+    return Ended(ran.returncode, ran.stdout.decode(errors="replace"), ran.stderr.decode(errors="replace"))
 
 
 def errors_of(kind):

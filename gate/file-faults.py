@@ -15,7 +15,6 @@ import itertools
 import os
 import pathlib
 import random
-import shutil
 import signal
 import sys
 import tempfile
@@ -25,7 +24,8 @@ sys.dont_write_bytecode = True
 sys.path.append(str(pathlib.Path(__file__).resolve().parent.parent / "tools"))
 import refusals  # noqa: E402
 from faults import LATER, READ_KINDS, ROOT, Calls, Fault, Processes, all_ways  # noqa: E402
-from faults import errors_of, files_of, finished, hold, lay, only, walk  # noqa: E402
+from faults import errors_of, finished, hold, lay, only, walk  # noqa: E402
+from found import Found, Known, take_away  # noqa: E402
 from reference import CODES, product  # noqa: E402
 from store import combined, stripe  # noqa: E402
 
@@ -75,6 +75,11 @@ class Files:
         return sums_of({name: data for name, data in self.before.items() if not name.startswith(UNFINISHED)})
 
     @functools.cached_property
+    def names(self):
+        """The names of the files of the store that each file becomes."""
+        return {name: list(names_of(name, b"")) for name in self.data}
+
+    @functools.cached_property
     def digests(self):
         """Those of all that is there after it."""
         return {name: hashlib.sha256(data).hexdigest() for name, data in self.after.items()}
@@ -87,27 +92,38 @@ class Files:
         lay(store, {SUMS: self.sums})
         return store
 
-    def hold_names(self, store, ran):
+    def hold_names(self, found, ran):
         """Each name has all of its bytes, a description has its fragments beside it, and the list of digests is one of the store's."""
-        there = {name: data for name, data in files_of(store).items() if not name.startswith(UNFINISHED)}
-        sums = there.pop(SUMS, None)
+        there = {name: data for name, data in found.files.items() if not name.startswith(UNFINISHED)}
+        sums, text = there.pop(SUMS, None), ran.text()
         for name, data in there.items():
-            hold(data == self.after.get(name), f"a name has bytes that are no file's: {name}: {ran.text()}")
+            hold(data == self.after.get(name), f"a name has bytes that are no file's: {name}: {text}")
         for name in self.data:
             if f"{name}.file" in there or f"{name}.file.copy" in there:
-                missing = [it for it in names_of(name, b"") if it not in there and ".file" not in it]
-                hold(not missing, f"a description is there without its fragments: {missing}: {ran.text()}")
+                missing = [it for it in self.names[name] if it not in there and ".file" not in it]
+                hold(not missing, f"a description is there without its fragments: {missing}: {text}")
         known = dict(line.split("  ")[::-1] for line in sums.decode().splitlines())
         for name, digest in known.items():
-            hold(digest == self.digests[name], f"a digest in {SUMS} is another: {name}: {ran.text()}")
-        hold(set(self.before) - {LEFTOVER} <= set(known), f"the list of digests is not whole: {ran.text()}")
+            hold(digest == self.digests[name], f"a digest in {SUMS} is another: {name}: {text}")
+        hold(set(self.before) - {LEFTOVER} <= set(known), f"the list of digests is not whole: {text}")
 
-    def hold_whole(self, store, ran):
-        there = files_of(store)
+    def hold_whole(self, found, ran):
+        there = dict(found.files)
         sums = there.pop(SUMS, b"").decode().splitlines()
         differing = sorted(name for name in there.keys() | self.after.keys() if there.get(name) != self.after.get(name))
         hold(not differing, f"the same command again doesn't end the work: {differing}: {ran.text()}")
         hold({line.split("  ")[1] for line in sums} == set(self.after), f"the list of digests is not whole: {ran.text()}")
+
+    def hold_ended(self, run, known, place, found):
+        """The same command again ends the work. From a state from which it did it isn't run again."""
+        def again():
+            second = run()
+            hold(second.status == 0, f"the same command again ends otherwise than with 0: {second.text()}")
+            self.hold_whole(Found(place / "store"), second)
+
+        sums = {SUMS: self.sums}
+        given = Found(place, but="store").state(self.data)
+        known.see(["encode", given, found.state(self.after, self.before | sums)], again)
 
 
 class Turns:
@@ -132,14 +148,19 @@ def is_of_leftover(ran):
     return any(pathlib.Path(path).name == LEFTOVER for path in ran.paths)
 
 
+def take_all_away(place):
+    take_away(place / "store")
+    take_away(place)
+
+
 class Encoding:
     """Files are encoded, and one call fails."""
 
     words = ("encode",)
     status = 0
 
-    def __init__(self, calls, files):
-        self.calls, self.files, self.turns = calls, files, Turns(calls, "encode")
+    def __init__(self, calls, known, files):
+        self.calls, self.known, self.files, self.turns = calls, known, files, Turns(calls, "encode")
 
     def command(self, place):
         return [PROGRAM, "encode", place / "store", *(place / name for name in self.files.data)]
@@ -149,7 +170,7 @@ class Encoding:
         try:
             return do(place, self.files.lay(place))
         finally:
-            shutil.rmtree(place)
+            take_all_away(place)
 
     def kinds(self):
         ran = self.in_folder(lambda place, _store: self.calls.run(self.command(place)))
@@ -160,25 +181,23 @@ class Encoding:
         self.in_folder(lambda place, store: self.judged(place, store, number, how, rest))
 
     def judged(self, place, store, number, how, rest):
-        ran = self.calls.run(self.command(place), number, how, rest)
+        ran, found = self.calls.run(self.command(place), number, how, rest), Found(store)
         shown = how if isinstance(how, str) else errno.errorcode[how]
         try:
-            self.files.hold_names(store, ran)
+            self.files.hold_names(found, ran)
             if how == "kill":
                 hold(ran.status == -signal.SIGKILL, f"it wasn't killed: {ran.text()}")
             elif ran.status == 0 and (is_no_fault(ran.kind, how) or (ran.kind == "lock" and is_of_leftover(ran))):
-                self.files.hold_whole(store, ran)
+                self.files.hold_whole(found, ran)
             else:
-                self.judge_fault(store, ran, how)
-            second = finished(self.command(place))
-            hold(second.status == 0, f"the same command again ends otherwise than with 0: {second.text()}")
-            self.files.hold_whole(store, second)
+                self.judge_fault(store, found, ran, how)
+            self.files.hold_ended(lambda: self.calls.run(self.command(place)), self.known, place, found)
         except Fault as fault:
             why, _, details = str(fault).partition(": ")
             raise Fault(f"{ran.kind}, {why}: call {number}, {' and '.join(ran.paths)} {shown}{LATER[rest]}: {details}") from None
 
     @staticmethod
-    def judge_fault(store, ran, how):
+    def judge_fault(store, found, ran, how):
         # Standard error that is closed or full ends nothing.
         if ran.kind == "output" and ran.status == 0 and ran.out and not ran.err:
             return
@@ -186,7 +205,7 @@ class Encoding:
         if ran.kind == "output":
             return
         hold(any(os.strerror(how) in line for line in ran.err.splitlines()), f"no line says {os.strerror(how)!r}: {ran.text()}")
-        left = sorted(path.name for path in store.iterdir() if path.name.startswith(UNFINISHED))
+        left = found.begins(UNFINISHED)
         is_of_folder = any(path.rstrip("/") == str(store) for path in ran.paths) and ran.kind != "sync"
         # Without the table of mounts nothing is begun, so what was left before stays.
         is_of_mounts = left == [LEFTOVER] and any(path.endswith("/mountinfo") for path in ran.paths)
@@ -238,9 +257,9 @@ class Reading:
             hold(any(os.strerror(how) in line for line in ran.err.splitlines()), f"{ran.kind}, no line says why: {where}")
 
 
-def refuse_all(pool, folder, files, encoded, name):
+def refuse_all(pool, known, folder, files, encoded, name):
     """Each allocation is refused, and each with all after it."""
-    library = refusals.Library(folder)
+    library = refusals.Library(folder, forks=True)
     reading = Reading(Calls(folder), encoded, name)
     turns = Turns(reading.calls, "refused")
 
@@ -261,16 +280,16 @@ def refuse_all(pool, folder, files, encoded, name):
         place = turns.new()
         store = files.lay(place)
         try:
-            command = [str(it) for it in Encoding(reading.calls, files).command(place)]
-            ran = library.run(command, refusal=refusal)
-            files.hold_names(store, ran)
+            command = [str(it) for it in Encoding(reading.calls, known, files).command(place)]
+            ran, found = library.run(command, refusal=refusal), Found(store)
+            files.hold_names(found, ran)
             kind = ended(ran, True, refusal)
-            second = finished(command)
-            hold(second.status == 0, f"{refusal}: the same command again: {second.text()}")
-            files.hold_whole(store, second)
+            files.hold_ended(lambda: finished(command), known, place, found)
             return ran, kind
+        except Fault as fault:
+            raise Fault(f"{refusal}: {fault}") from None
         finally:
-            shutil.rmtree(place)
+            take_all_away(place)
 
     for command in (encode, read):
         for rest in (False, True):
@@ -292,14 +311,15 @@ def main():
     pool = Processes()
     with tempfile.TemporaryDirectory(dir=place) as scratch:
         folder = pathlib.Path(scratch)
-        encoding, reading = Encoding(Calls(folder), files), Reading(Calls(folder), encoded, "long")
+        calls, known = Calls(folder, forks=True), Known(folder / "known")
+        encoding, reading = Encoding(calls, known, files), Reading(calls, encoded, "long")
         (folder / "refused").mkdir()
         for part in (
             lambda: walk(pool, encoding, all_ways, needed=ENCODING),
             lambda: walk(pool, encoding, only("short", "read", "write", "output")),
             lambda: walk(pool, reading, lambda kind: [*errors_of(kind), "kill", "short"], needed=READING),
             lambda: walk(pool, reading, only(errno.EIO, "read", "open", "look"), rest="path"),
-            lambda: refuse_all(pool, folder / "refused", files, encoded, "long"),
+            lambda: refuse_all(pool, known, folder / "refused", files, encoded, "long"),
         ):
             try:
                 part()

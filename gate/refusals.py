@@ -7,6 +7,7 @@ crates/rebuild/out/rebuild, and the tests out/<crate>_tests of the crates that T
 """
 
 import collections
+import contextlib
 import csv
 import dataclasses
 import hashlib
@@ -22,6 +23,8 @@ import sys
 import tempfile
 import typing
 from concurrent.futures import ThreadPoolExecutor
+
+import runs
 
 ROOT = pathlib.Path(__file__).resolve().parent.parent
 PROGRAM = ROOT / "crates/rebuild/out/rebuild"
@@ -118,6 +121,9 @@ SECONDS = 20
 MOST = 5_000
 BATCH = 32
 
+# What refuse.c counts.
+COUNTS = struct.Struct("=7Q")
+
 EXHAUSTED = 4
 WITHOUT_MEMORY = b"E16\n"
 WITHOUT_THREAD = b"E17\n"
@@ -158,33 +164,30 @@ class Refusal:
 
 
 class Library:
-    """refuse.c, built into a folder."""
+    """refuse.c, built into a folder. With `forks` the runs of a program share a start."""
 
-    def __init__(self, folder):
+    def __init__(self, folder, forks=False):
         self.folder = folder
         self.file = folder / "refuse.so"
         build(self.file, "refuse.c", "-shared", "-fPIC")
+        self.library = runs.Preloaded(self.file, "REFUSE_COUNTS", COUNTS.size, forks)
 
     def run(self, words, given=b"", refusal=Refusal(), large=0, late=0):
         """Runs a program to its end under a refusal, and counts its allocations of so many bytes or more. The thread of a number may begin
         late."""
-        with tempfile.NamedTemporaryFile(dir=self.folder) as counts:
-            counts.truncate(56)
-            environment = {
-                "LD_PRELOAD": str(self.file),
-                "REFUSE_COUNTS": counts.name,
-                "REFUSE_ALLOCATION": str(refusal.allocation),
-                "REFUSE_THREAD": str(refusal.thread),
-                "REFUSE_REST": str(int(refusal.rest)),
-                "REFUSE_LARGE": str(large),
-                "REFUSE_LATE": str(late),
-            }
-            ran = finished(words, given, environment)
-            numbers = struct.unpack("=7Q", pathlib.Path(counts.name).read_bytes())
-        asked, refused, counted, threads, refused_threads, _, many = numbers
+        settings = {
+            "REFUSE_ALLOCATION": str(refusal.allocation),
+            "REFUSE_THREAD": str(refusal.thread),
+            "REFUSE_REST": str(int(refusal.rest)),
+            "REFUSE_LARGE": str(large),
+            "REFUSE_LATE": str(late),
+        }
+        with ending(words):
+            ran = self.library.run([str(it) for it in words], settings, SECONDS, given)
+        asked, refused, counted, threads, refused_threads, _, many = COUNTS.unpack(ran.record)
         if counted != 1:
             raise Fault(f"nothing counted what {words[0]} asks for")
-        return Ended(ran.returncode, ran.stdout, ran.stderr, asked, refused, threads, refused_threads, many)
+        return Ended(ran.status, ran.out, ran.err, asked, refused, threads, refused_threads, many)
 
 
 def build(to, source, *flags):
@@ -192,13 +195,20 @@ def build(to, source, *flags):
     subprocess.run([compiler, "-O2", "-Wall", *flags, "-o", to, ROOT / "gate" / source, "-pthread"], check=True)
 
 
-def finished(words, given, environment):
+@contextlib.contextmanager
+def ending(words):
+    """Says that a program isn't built or doesn't end."""
     try:
-        return subprocess.run(words, input=given, capture_output=True, env=environment, timeout=SECONDS)
+        yield
     except FileNotFoundError:
         raise Fault(f"{words[0]} is not built: make test and make build do it") from None
     except subprocess.TimeoutExpired:
         raise Fault(f"had not ended after {SECONDS} seconds") from None
+
+
+def finished(words, given, environment):
+    with ending(words):
+        return subprocess.run(words, input=given, capture_output=True, env=environment, timeout=SECONDS)
 
 
 def test_the_library(library):
@@ -416,18 +426,20 @@ def make(walk, pool):
     whole, kind = one(0)
     if whole.was_refused or kind != "answered":
         raise Fault(f"{name}: {kind} where nothing is refused")
-    kinds = []
-    for start in range(1, MOST, BATCH):
-        ended = list(pool.map(one, range(start, start + BATCH)))
+    asked = whole.allocations if what == "allocation" else whole.threads
+    kinds, start = [], 1
+    # At first as many as were asked for, in one batch.
+    for end in range(1 + BATCH * max(1, -(-asked // BATCH)), MOST + BATCH, BATCH):
+        ended = list(pool.map(one, range(start, end)))
         if any(kind != "answered" for ran, kind in ended if not ran.was_refused):
             raise Fault(f"{name}: no answer where nothing was refused")
         met = [kind for ran, kind in ended if ran.was_refused]
         kinds += met
         if not met:
             break
+        start = end
     else:
         raise Fault(f"{name}: no end after {MOST} numbers")
-    asked = whole.allocations if what == "allocation" else whole.threads
     if len(kinds) < max(asked // 2, 1):
         raise Fault(f"{name}: {len(kinds)} refused, and {asked} asked for")
     if not walk.ends <= set(kinds):

@@ -4,7 +4,7 @@
  * that follow it too. REFUSE_LATE=N lets the Nth thread begin only after a tenth of a second. Counting begins with
  * `main`, so the system's own start-up is let be. The file REFUSE_COUNTS gets seven numbers of 64 bits: for allocations,
  * then for threads, those asked for, those refused, and 1 where `main` was reached; then the allocations of REFUSE_LARGE
- * bytes or more. It is mapped, so it is right however the program ends. */
+ * bytes or more. It is mapped, so it is right however the program ends. Many runs may share a start: fork-runs.h. */
 #define _GNU_SOURCE
 #include <dlfcn.h>
 #include <errno.h>
@@ -16,6 +16,8 @@
 #include <stdlib.h>
 #include <sys/mman.h>
 #include <unistd.h>
+
+#include "fork-runs.h"
 
 struct kind {
     _Atomic uint64_t asked, refused, counts;
@@ -127,6 +129,32 @@ int pthread_create(pthread_t *thread, const pthread_attr_t *attributes, void *(*
     return system_create(thread, attributes, begin_late, NULL);
 }
 
+static uint64_t number_of(const char *name)
+{
+    const char *text = getenv(name);
+    return text == NULL ? 0 : strtoull(text, NULL, 10);
+}
+
+static void read_settings(void)
+{
+    first[ALLOCATION] = number_of("REFUSE_ALLOCATION");
+    first[THREAD] = number_of("REFUSE_THREAD");
+    refuses_rest = number_of("REFUSE_REST") != 0;
+    late = number_of("REFUSE_LATE");
+    large = number_of("REFUSE_LARGE") != 0 ? number_of("REFUSE_LARGE") : UINT64_MAX;
+}
+
+__attribute__((constructor)) static void prepare(void)
+{
+    const char *path = getenv("REFUSE_COUNTS");
+    int file = path == NULL ? -1 : open(path, O_RDWR | O_CLOEXEC);
+    void *mapped = file == -1 ? MAP_FAILED : mmap(NULL, sizeof unmapped, PROT_READ | PROT_WRITE, MAP_SHARED, file, 0);
+    if (mapped == MAP_FAILED)
+        _exit(99);
+    close(file);
+    counts = mapped;
+}
+
 static int (*program_main)(int, char **, char **);
 
 static int counting_main(int count, char **words, char **environment)
@@ -143,28 +171,7 @@ int __libc_start_main(int (*main)(int, char **, char **), int count, char **word
 {
     start *system_start = (start *)dlsym(RTLD_NEXT, "__libc_start_main");
     program_main = main;
+    fork_runs(&count, &words);
+    read_settings();
     return system_start(counting_main, count, words, begin, end, end_loader, stack);
-}
-
-static uint64_t number_of(const char *name)
-{
-    const char *text = getenv(name);
-    return text == NULL ? 0 : strtoull(text, NULL, 10);
-}
-
-__attribute__((constructor)) static void prepare(void)
-{
-    const char *path = getenv("REFUSE_COUNTS");
-    int file = path == NULL ? -1 : open(path, O_RDWR | O_CLOEXEC);
-    void *mapped = file == -1 ? MAP_FAILED : mmap(NULL, sizeof unmapped, PROT_READ | PROT_WRITE, MAP_SHARED, file, 0);
-    if (mapped == MAP_FAILED)
-        _exit(99);
-    close(file);
-    counts = mapped;
-    first[ALLOCATION] = number_of("REFUSE_ALLOCATION");
-    first[THREAD] = number_of("REFUSE_THREAD");
-    refuses_rest = number_of("REFUSE_REST") != 0;
-    late = number_of("REFUSE_LATE");
-    if (number_of("REFUSE_LARGE") != 0)
-        large = number_of("REFUSE_LARGE");
 }

@@ -9,12 +9,13 @@ repaired, a line names the file and the fault, and the same command again makes 
 
 import dataclasses
 import errno
+import functools
+import hashlib
 import itertools
 import os
 import pathlib
 import random
 import re
-import shutil
 import signal
 import subprocess
 import sys
@@ -25,7 +26,8 @@ sys.dont_write_bytecode = True
 sys.path.append(str(pathlib.Path(__file__).resolve().parent.parent / "tools"))
 import refusals  # noqa: E402
 from faults import LATER, READ_KINDS, ROOT, Calls, Ended, Fault, Processes, all_ways  # noqa: E402
-from faults import errors_of, files_of, finished, hold, lay, only, walk  # noqa: E402
+from faults import errors_of, finished, hold, lay, only, walk  # noqa: E402
+from found import Found, Known, take_away  # noqa: E402
 from store import stripe  # noqa: E402
 
 PROGRAM = ROOT / "crates/rebuild_store/out/rebuild_store"
@@ -58,30 +60,44 @@ class Store:
         folder.mkdir()
         lay(folder, self.before, MODE)
 
-    def is_whole(self, folder, but=()):
-        return {name: data for name, data in files_of(folder).items() if name not in but} == self.after
+    @functools.cached_property
+    def digest(self):
+        """A digest of both."""
+        named = [(name.encode(), data) for files in (self.before, self.after) for name, data in sorted(files.items())]
+        return hashlib.sha256(b"".join(b"%s %d %s" % (name, len(data), data) for name, data in named)).hexdigest()
 
-    def unfinished(self, folder):
+    def is_whole(self, found, but=()):
+        return {name: data for name, data in found.files.items() if name not in but} == self.after
+
+    def unfinished(self, found):
         """The fragments that haven't yet the bytes that they should have, each of a stripe that was not repaired."""
-        there = files_of(folder)
-        return {name for name, data in self.after.items() if there.get(name) != data}
+        return {name for name, data in self.after.items() if found.files.get(name) != data}
 
-    def hold_names(self, folder, seen):
+    def hold_names(self, found, seen):
         """Each name has all of its bytes, old or new, and what was there is there."""
         text, modes = seen.text(), {MODE, PRIVATE if seen.kind == "chown" else MODE}
-        files = files_of(folder)
-        there = {name: data for name, data in files.items() if not name.startswith(UNFINISHED)}
-        for name in files.keys() - there.keys() - {LEFTOVER}:
-            mode = os.stat(f"{folder}/{name}").st_mode & 0o777
+        there = {name: data for name, data in found.files.items() if not name.startswith(UNFINISHED)}
+        for name in found.files.keys() - there.keys() - {LEFTOVER}:
+            mode = found.mode(name)
             hold(mode in {PRIVATE, *modes}, f"an unfinished file has other rights: {name}: {mode:o}: {text}")
         for name, data in there.items():
             whole = [self.before.get(name), self.after.get(name)]
             if name.endswith(".damaged"):
                 whole.append(self.before.get(name.removesuffix(".damaged")))
             hold(data in whole, f"a name has bytes that are no fragment's: {name}: {text}")
-            hold(os.stat(f"{folder}/{name}").st_mode & 0o777 in modes, f"a name has another mode: {name}: {text}")
+            hold(found.mode(name) in modes, f"a name has another mode: {name}: {text}")
         for name in self.before:
             hold(name in there or name.startswith(UNFINISHED), f"a name is gone: {name}: {text}")
+
+    def hold_repaired(self, run, words, known, folder, found, kept=()):
+        """The same command again, with these words, makes the store whole, but for what was kept. From a state from which it did it isn't
+        run again."""
+        def again():
+            second = run()
+            hold(second.status == 0, f"the same command again ends otherwise than with 0: {second.text()}")
+            hold(self.is_whole(Found(folder), kept), f"isn't whole after the same command again: {second.text()}")
+
+        known.see([self.digest, *words, "", *sorted(kept), "", found.state(self.before, self.after)], again)
 
 
 def store_of(code, choose, has_damage):
@@ -100,8 +116,8 @@ def store_of(code, choose, has_damage):
 class Trial:
     """A command over a store, one of whose calls fails. Each turn has a folder of its own."""
 
-    def __init__(self, calls, store, *words, status=0):
-        self.calls, self.store, self.words, self.status = calls, store, words, status
+    def __init__(self, calls, known, store, *words, status=0):
+        self.calls, self.known, self.store, self.words, self.status = calls, known, store, words, status
         self.turns = itertools.count()
 
     @property
@@ -118,7 +134,7 @@ class Trial:
         try:
             return do(place)
         finally:
-            shutil.rmtree(place)
+            take_away(place)
 
     def kinds(self):
         """The kinds of all calls of a run without a fault, in their order."""
@@ -138,7 +154,7 @@ class Trial:
         ran = self.calls.run(self.command(folder), number, how, rest)
         hold(ran.failed == 1, f"call {number} of {self.words} wasn't made: {ran.text()}")
         try:
-            self.judge(folder, ran, how, rest)
+            self.judge(folder, Found(folder), ran, how, rest)
         except Fault as fault:
             shown = how if isinstance(how, str) else errno.errorcode[how]
             what = f"{ran.kind} of {' and '.join(map(self.below(folder), ran.paths))} {shown}{LATER[rest]}"
@@ -149,22 +165,25 @@ class Trial:
     def below(folder):
         return lambda path: path.replace(str(folder), "STORE")
 
-    def judge(self, folder, ran, how, rest):
+    def judge(self, folder, found, ran, how, rest):
         if not self.is_repair:
-            hold(files_of(folder) == self.store.before, f"changed the store: {ran.text()}")
+            hold(found.files == self.store.before, f"changed the store: {ran.text()}")
         if how != "meanwhile":
-            self.store.hold_names(folder, ran)
+            self.store.hold_names(found, ran)
         if how == "kill":
             hold(ran.status == -signal.SIGKILL, f"it wasn't killed: {ran.text()}")
         elif how == "meanwhile":
             self.judge_meanwhile(folder, ran)
+            found = Found(folder)
         elif how == "short" or (how == errno.EINTR and ran.status == self.status):
             hold(ran.status == self.status, f"another status than without: {ran.text()}")
-            hold(not self.is_repair or self.store.is_whole(folder), f"isn't whole: {ran.text()}")
+            hold(not self.is_repair or self.store.is_whole(found), f"isn't whole: {ran.text()}")
         elif (ran.kind, how) not in ALLOWED:
-            self.judge_fault(folder, ran, how, rest)
+            self.judge_fault(folder, found, ran, how, rest)
         if self.is_repair:
-            self.again(folder, ran)
+            # What could not be read may have been replaced, and kept.
+            kept = {f"{pathlib.Path(path).name}.damaged" for path in ran.paths} - set(self.store.after) if ran.kind in READ_KINDS else ()
+            self.store.hold_repaired(lambda: self.calls.run(self.command(folder)), self.words, self.known, folder, found, kept)
 
     def judge_meanwhile(self, folder, ran):
         """What another program put under the name that a link was about to give stays as it is, and is named."""
@@ -175,15 +194,15 @@ class Trial:
         hold(named, f"no line names what came meanwhile: {came.name}: {ran.text()}")
         came.unlink()
 
-    def judge_fault(self, folder, ran, how, rest):
+    def judge_fault(self, folder, found, ran, how, rest):
         """A fault's status, its line, and what was done all the same. One in reading, or in making a fragment, may be of the first of two
         attempts, of which the second has all."""
         attempted = {*READ_KINDS, "create", "lock", "write"}
-        if self.is_repair and ran.kind in attempted and ran.status == self.status and self.store.is_whole(folder):
+        if self.is_repair and ran.kind in attempted and ran.status == self.status and self.store.is_whole(found):
             return
         # The folder is locked, so a leftover whose own lock can't be had is known to be one.
         is_of_leftover = any(pathlib.Path(path).name == LEFTOVER for path in ran.paths)
-        if self.is_repair and ran.kind == "lock" and is_of_leftover and ran.status == self.status and self.store.is_whole(folder):
+        if self.is_repair and ran.kind == "lock" and is_of_leftover and ran.status == self.status and self.store.is_whole(found):
             return
         # Standard error that is closed or full ends nothing.
         if ran.kind == "output" and ran.status == self.status and self.below(folder)(ran.out) == self.out:
@@ -192,7 +211,7 @@ class Trial:
         if ran.kind == "output":
             return
         names = {pathlib.Path(path).name for path in ran.paths} - {""}
-        unfinished = self.store.unfinished(folder) if self.is_repair else set()
+        unfinished = self.store.unfinished(found) if self.is_repair else set()
         said = [line for line in (ran.out + ran.err).splitlines() if os.strerror(how) in line]
         # Where all further calls of its kind fail too, what is said may be of one of those.
         named = said if rest == "kind" else [line for line in said if any(name in line for name in names | unfinished)]
@@ -203,7 +222,7 @@ class Trial:
         is_of_folder = str(folder) in ran.paths or f"{folder}/" in ran.paths
         if not self.is_repair or (is_of_folder and ran.kind != "sync") or rest == "kind":
             return
-        left = sorted(path.name for path in folder.iterdir() if path.name.startswith(UNFINISHED))
+        left = found.begins(UNFINISHED)
         hold(not left or ran.kind == "unlink" or left == [LEFTOVER] and is_of_leftover, f"a temporary file is left: {left}: {ran.text()}")
         # The other survivors of its stripe do, but for one of which it can't be told then which is damaged.
         holds_damage = any(name.endswith(".damaged") for name in self.store.after)
@@ -215,23 +234,16 @@ class Trial:
         done = len([name for name in self.store.after if name not in self.store.before and not name.endswith(".damaged")])
         done += len([name for name in self.store.after if name.endswith(".damaged")])
         done -= len([name for name in unfinished if not name.endswith(".damaged")])
-        more = len([path for path in folder.iterdir() if path.name.endswith(".damaged") and path.name not in self.store.after])
-        found = re.search(r"^repaired (\d+) ", ran.out, re.M)
-        hold(found and int(found[1]) in (done, done + more), f"didn't say how many fragments were repaired: {done}: {ran.text()}")
-
-    def again(self, folder, ran):
-        """The same command makes the store whole. What could not be read may have been replaced, and kept."""
-        second = finished(self.command(folder))
-        kept = {f"{pathlib.Path(path).name}.damaged" for path in ran.paths} - set(self.store.after) if ran.kind in READ_KINDS else ()
-        hold(second.status == 0, f"the same command again ends otherwise than with 0: {second.text()}")
-        hold(self.store.is_whole(folder, kept), f"isn't whole after the same command again: {second.text()}")
+        more = len([name for name in found.files if name.endswith(".damaged") and name not in self.store.after])
+        said = re.search(r"^repaired (\d+) ", ran.out, re.M)
+        hold(said and int(said[1]) in (done, done + more), f"didn't say how many fragments were repaired: {done}: {ran.text()}")
 
 
 class Refused:
     """A command whose memory or threads are refused: it says that it is out of memory, or does all that it does without a refusal."""
 
-    def __init__(self, library, store, *words, status=0):
-        self.library, self.store, self.words, self.status = library, store, words, status
+    def __init__(self, library, known, store, *words, status=0):
+        self.library, self.known, self.store, self.words, self.status = library, known, store, words, status
         self.turns = itertools.count()
         self.wanted = None if store else library.run([PROGRAM, *words])
 
@@ -244,20 +256,22 @@ class Refused:
         try:
             return self.in_folder(folder, refusal)
         finally:
-            shutil.rmtree(folder)
+            take_away(folder)
 
     def in_folder(self, folder, refusal):
         command = [str(it) for it in (PROGRAM, self.words[0], folder, *self.words[1:])]
         ran = self.library.run(command, refusal=refusal)
-        seen = Ended(ran.status, ran.out.decode(), ran.err.decode())
-        self.store.hold_names(folder, seen)
+        seen, found = Ended(ran.status, ran.out.decode(), ran.err.decode()), Found(folder)
+        self.store.hold_names(found, seen)
         is_repair = self.words[0] == "repair"
         if not is_repair:
-            hold(files_of(folder) == self.store.before, f"changed the store: {seen.text()}")
-        kind = self.kind(ran, refusal, ran.status == self.status and (not is_repair or self.store.is_whole(folder)))
+            hold(found.files == self.store.before, f"changed the store: {seen.text()}")
+        kind = self.kind(ran, refusal, ran.status == self.status and (not is_repair or self.store.is_whole(found)))
         if is_repair:
-            second = finished(command)
-            hold(second.status == 0 and self.store.is_whole(folder), f"{refusal}: the same command again: {second.text()}")
+            try:
+                self.store.hold_repaired(lambda: finished(command), self.words, self.known, folder, found)
+            except Fault as fault:
+                raise Fault(f"{refusal}: {fault}") from None
         return ran, kind
 
     @staticmethod
@@ -272,23 +286,23 @@ class Refused:
         raise refusals.Fault(f"{refusal}: {ran.text()}")
 
 
-def refuse_all(pool, folder, lost, damaged):
+def refuse_all(pool, known, folder, lost, damaged):
     """Each allocation is refused, and each with all after it; and so is each thread."""
-    library = refusals.Library(folder)
+    library = refusals.Library(folder, forks=True)
     commands = [
-        Refused(library, lost, "repair", "--workers", "1"),
-        Refused(library, damaged, "repair", "--workers", "1", "--replace-damaged"),
-        Refused(library, lost, "lost", status=1),
-        Refused(library, damaged, "scrub", "--workers", "1", status=1),
-        Refused(library, None, "--help"),
-        Refused(library, None, "repair"),
-        Refused(library, None, "repair", "absent"),
+        Refused(library, known, lost, "repair", "--workers", "1"),
+        Refused(library, known, damaged, "repair", "--workers", "1", "--replace-damaged"),
+        Refused(library, known, lost, "lost", status=1),
+        Refused(library, known, damaged, "scrub", "--workers", "1", status=1),
+        Refused(library, known, None, "--help"),
+        Refused(library, known, None, "repair"),
+        Refused(library, known, None, "repair", "absent"),
     ]
     for command in commands:
         for rest in (False, True):
             name = f"rebuild-store {' '.join(command.words)}"
             refusals.make(refusals.Walk(name, "allocation", rest, command, {"out of memory"}), pool)
-    several = Refused(library, lost, "repair", "--workers", "4")
+    several = Refused(library, known, lost, "repair", "--workers", "4")
     for rest in (False, True):
         refusals.make(refusals.Walk("rebuild-store repair --workers 4", "thread", rest, several, set(), {"answered"}), pool)
 
@@ -341,9 +355,9 @@ def main():
 
 def parts(pool, folder, lost, damaged):
     """What is tried, one after the other."""
-    calls = Calls(folder)
-    repair = Trial(calls, lost, "repair", "--workers", "1")
-    replace = Trial(calls, damaged, "repair", "--workers", "1", "--replace-damaged")
+    calls, known = Calls(folder, forks=True), Known(folder / "known")
+    repair = Trial(calls, known, lost, "repair", "--workers", "1")
+    replace = Trial(calls, known, damaged, "repair", "--workers", "1", "--replace-damaged")
     for trial, needed in ((repair, REPAIRING), (replace, REPLACING)):
         yield lambda: walk(pool, trial, all_ways, needed=needed)
         yield lambda: walk(pool, trial, only("short", "read", "write", "output"))
@@ -351,9 +365,9 @@ def parts(pool, folder, lost, damaged):
         yield lambda: walk(pool, trial, only(errno.EIO, "read", "open", "look"), rest="path")
         yield lambda: walk(pool, trial, only(errno.EIO, "read", "open", "look"), rest="kind")
         yield lambda: walk(pool, trial, only(errno.ENOSPC, "create", "write", "sync", "link"), rest="kind")
-    yield lambda: walk(pool, Trial(calls, lost, "lost", status=1), errors_of, needed=LISTING)
-    yield lambda: walk(pool, Trial(calls, damaged, "scrub", "--workers", "1", status=1), errors_of, needed=READING)
-    yield lambda: refuse_all(pool, folder, lost, damaged)
+    yield lambda: walk(pool, Trial(calls, known, lost, "lost", status=1), errors_of, needed=LISTING)
+    yield lambda: walk(pool, Trial(calls, known, damaged, "scrub", "--workers", "1", status=1), errors_of, needed=READING)
+    yield lambda: refuse_all(pool, known, folder, lost, damaged)
     yield lambda: hold_memory(folder / "memory")
 
 
