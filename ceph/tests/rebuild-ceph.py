@@ -21,10 +21,13 @@ import tempfile
 import time
 
 sys.dont_write_bytecode = True
+HERE = pathlib.Path(__file__).resolve().parent
+sys.path.append(str(HERE.parent.parent / "tools"))
+import forked  # noqa: E402
 from stopped import Stopped, line_of  # noqa: E402
 
-HERE = pathlib.Path(__file__).resolve().parent
 COMMAND = os.environ.get("REBUILD_CEPH", HERE.parent / "rebuild-ceph")
+PROGRAM = forked.Program(COMMAND)
 PLAIN = ["x0", "x1", "x2", "y0", "y1", "y2", "px", "py", "p0", "p1"]
 GROUPS = ["x0", "x1", "x2", "px", "y0", "y1", "y2", "py", "p0", "p1"]
 ENVIRONMENT = dict(os.environ)
@@ -46,7 +49,7 @@ def words_of(command, store, osds, *more):
 
 def run(command, store, osds, *more, status):
     """What it says; it has to end with this status, never with a traceback, and to wait for another run where one is at work alone."""
-    ended = subprocess.run(words_of(command, store, osds, *more), capture_output=True, text=True, env=ENVIRONMENT)
+    ended = PROGRAM.run(words_of(command, store, osds, *more)[2:], ENVIRONMENT)
     said = ended.stdout + ended.stderr
     check(ended.returncode == status and "Traceback" not in said, f"{command} {more}: status {ended.returncode}, not {status}: {said}")
     check("waits for" not in said or osds[0].has("slow"), f"{command} {more} waits: {said}")
@@ -670,16 +673,18 @@ TESTS = (names, odd_names, changed, unusable, maps, full, in_one_run, cut_short,
 
 def main():
     wanted = sys.argv[1:] or [test.__name__ for test in TESTS]
-    for test in TESTS:
-        if test.__name__ in wanted:
-            with tempfile.TemporaryDirectory() as scratch:
-                place = pathlib.Path(scratch)
-                (place / "bin").mkdir()
-                for name in ("ceph-objectstore-tool", "osdmaptool"):
-                    (place / "bin" / name).symlink_to(HERE / "stopped.py")
-                ENVIRONMENT["PATH"] = f"{place / 'bin'}:{os.environ['PATH']}"
-                (place / "osds").mkdir()
-                test(place / "osds")
+    with tempfile.TemporaryDirectory() as scratch:
+        place = pathlib.Path(scratch)
+        ENVIRONMENT["PATH"] = f"{place}:{os.environ['PATH']}"
+        ENVIRONMENT["STAND_IN"] = str(place / "socket")
+        compiler = os.environ.get("CC", "gcc")
+        subprocess.run([compiler, "-O2", "-Wall", "-o", place / "ceph-objectstore-tool", HERE / "stand-in.c"], check=True)
+        (place / "osdmaptool").symlink_to("ceph-objectstore-tool")
+        with forked.standing(forked.Program(HERE / "stopped.py"), place / "socket"):
+            for test in TESTS:
+                if test.__name__ in wanted:
+                    (place / test.__name__).mkdir()
+                    test(place / test.__name__)
     print(f"rebuild-ceph: {passed} passed, 0 failed")
 
 
