@@ -3,11 +3,16 @@
 import os
 import pathlib
 import subprocess
+import sys
 import tempfile
 import unittest
 
 ROOT = pathlib.Path(__file__).resolve().parent.parent.parent
+sys.path.append(str(ROOT / "tools"))
+import forked  # noqa: E402
+
 COMPANION = ROOT / "companion/rebuild-lists"
+FORKED = forked.Program(COMPANION)
 PROGRAM = ROOT / "crates/rebuild/out/rebuild"
 FIVE = "order,stripe,target,length,survivors\n"
 SIX = "order,stripe,target,length,survivors,code\n"
@@ -34,10 +39,13 @@ class Store(unittest.TestCase):
             (self.store / f"{stripe}.{place}").write_bytes(data)
 
     def call(self, *words, program=PROGRAM, **how):
-        """Runs the companion in the scratch folder, with the built program where the command needs it."""
+        """Runs the companion in the scratch folder, with the built program where the command needs it: by a start of its own where `how`
+        says more of it."""
         words = [str(word) for word in words]
         if words[0] in ("serve", "damaged") and "--program" not in words:
             words += ["--program", str(program)]
+        if not how:
+            return FORKED.run(words, os.environ, self.at)
         return subprocess.run([COMPANION, *words], cwd=self.at, capture_output=True, text=True, **how)
 
     def done(self, ended, said, status=0):
