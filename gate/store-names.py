@@ -163,8 +163,16 @@ UNNAMED = [
     ("{stripe}/{place}", "6-2-2", RUN + DIGITS, "x0"), ("{place}-{stripe}", "6-2-2", "a.damaged", "x0"),
     ("{place}{stripe}", "6-2-2", ".damaged", "x0"),
 ]
-# A pattern, and whether it takes the names of descriptions for those of fragments.
-AMBIGUOUS = {"{stripe}.{place}": False, "disk{shard}/{stripe}": True, "{place}-{stripe}": False, "{stripe}/{place}": False}
+# A pattern, names that a description of a stripe has, of (6,2,2), and names that none has.
+DESCRIPTION_NAMES = {
+    "{stripe}.{place}": (["a.file", "a.file.copy", "a.x0.file"], ["a.x0", "d/a.file", ".file", ".file.copy", "a.files", ""]),
+    "disk{shard}/{stripe}": (
+        ["disk0/a.file", "disk9/a.file.file"], ["disk10/a.file", "disk0/a.file.copy", "disk0/a", "a.file", "disk0/.file"]),
+    "disk{shard}/p{stripe}": (["disk0/a.file", "disk1/pa.file"], ["disk0/pa", "disk0/a.file.copy"]),
+    "{stripe}/{place}": (["a/a.file", "a/a.file.copy"], ["a/b.file", "a/x0", "a.file", "a/a/a.file"]),
+    "{place}-{stripe}": (["x0-b.file", "x0-b.file.copy", "b.file"], ["x0-b", "x0-b.fil"]),
+    "{place}-{stripe}e": (["x0-b.file", "b.file"], ["x0-b.fil", "x0-be"]),
+}
 
 
 def calls_of_patterns():
@@ -177,8 +185,9 @@ def calls_of_patterns():
             yield ("pattern", "read", pattern, "plain", code, name), "none"
     for pattern, code, stripe, place in UNNAMED:
         yield ("pattern", "name_of", pattern, "plain", code, stripe, place), "none"
-    for pattern, is_so in AMBIGUOUS.items():
-        yield ("pattern", "is_ambiguous", pattern, "plain", "6-2-2"), said(is_so)
+    for pattern, (names, others) in DESCRIPTION_NAMES.items():
+        for name in (*names, *others):
+            yield ("pattern", "is_description_name", pattern, "plain", "6-2-2", name), said(name in names)
 
 
 def said(is_so):
@@ -362,10 +371,83 @@ def test_descriptions(place):
         check(came == ("", f"{lost}1 stripe; 0 fragments lost, 0 of them not in the list\n", 1), f"{pattern}: {came}")
 
 
+# A pattern, names of files one of whose fragments would have the name of a description, and names of others.
+LIKE_DESCRIPTIONS = {
+    "{place}-{stripe}": (["b.file", "b.file.copy"], ["b", "x0-b", "b.files"]),
+    "{place}-{stripe}e": (["b.fil"], ["b", "b.file"]),
+    "disk{shard}/{stripe}": (["b.file"], ["b", "b.file.copy"]),
+    "disk{shard}/p{stripe}": (["b.file"], ["b", "b.file.copy"]),
+    "{stripe}/{place}.file": (["x0"], ["a", "x0.file"]),
+    "{stripe}.{place}": ([], ["b.file", "x0.file", "b.file.copy"]),
+}
+
+
+def test_fragments_like_descriptions(place):
+    """No file is encoded a fragment of which would have the name of a description, and each other file can be made whole again."""
+    source = place / "source"
+    source.write_bytes(bytes(range(256)) * 3)
+    for number, (pattern, (refused, others)) in enumerate(LIKE_DESCRIPTIONS.items()):
+        store = place / str(number)
+        words = ["--code", "6-2-2", "--names", pattern]
+        store.mkdir()
+        for name in refused:
+            _, err, status = ran([PROGRAM, "encode", "--make-folders", *words, "--as", name, store, source])
+            check(status == 1 and "a stripe can't have this name" in err, f"{pattern}, {name}: {status} {err}")
+            check(not [it for it in store.rglob("*") if it.is_file()], f"{pattern}, {name}: {[*store.rglob('*')]}")
+        for name in others:
+            ran([PROGRAM, "encode", "--make-folders", *words, "--as", name, store, source])
+        files = regular(store)
+        for name in others:
+            (store / named(pattern, name, "x1", 1)).unlink(missing_ok=True)
+        out, err, status = ran([PROGRAM, "repair", *words, store])
+        check((regular(store), err, status) == (files, "", 0), f"{pattern}: {out}{err}{status}")
+        check(out.startswith(f"repaired {len(others)} fragment"), f"{pattern}: {out}")
+
+
+def regular(store):
+    """The bytes of the files of a store, by their paths."""
+    return {str(path.relative_to(store)): path.read_bytes() for path in store.rglob("*") if path.is_file()}
+
+
+def named(pattern, stripe, place, shard):
+    return pattern.format(stripe=stripe, place=place, shard=shard)
+
+
+def test_stores_with_such_files(place):
+    """A store that has a file of such a name, as earlier builds took it, is repaired; so is a description that is named as a fragment."""
+    source, words = place / "source", ["--code", "6-2-2", "--names", "{place}-{stripe}"]
+    source.write_bytes(bytes(range(256)) * 5)
+    for has_sums in (True, False):
+        store = place / f"store-{has_sums}"
+        ran([PROGRAM, "encode", "--make-folders", "--code", "6-2-2", "--as", "b.file", store, source])
+        for fragment in [*store.glob("b.file.??")]:
+            fragment.rename(store / f"{fragment.suffix[1:]}-b.file")
+        sums = store / "SHA256SUMS"
+        lines = [line.split("  ") for line in sums.read_text().splitlines()]
+        renamed = sorted((f"{name[-2:]}-b.file" if name[:-2] == "b.file." else name, digest) for digest, name in lines)
+        sums.write_text("".join(f"{digest}  {name}\n" for name, digest in renamed))
+        if not has_sums:
+            sums.unlink()
+        files = regular(store)
+        (store / "x0-b.file").unlink()
+        (store / "py-b.file").unlink()
+        out, err, status = ran([PROGRAM, "repair", *words, store])
+        check((regular(store), err, status) == (files, "", 0), f"{has_sums}: {sorted(regular(store))} {out}{err}{status}")
+    store = place / "store"
+    ran([PROGRAM, "encode", "--make-folders", *words, "--as", "x0-c", store, source])
+    files = regular(store)
+    for name in ("x0-c.file", "x0-c.file.copy"):
+        (store / name).write_bytes(b"damaged\n")
+        out, err, status = ran([PROGRAM, "repair", "--replace-damaged", *words, store])
+        left = {it: data for it, data in regular(store).items() if not it.endswith(".damaged")}
+        check((left, status) == (files, 0) and "of no stripe" not in err, f"{name}: {sorted(left)} {out}{err}{status}")
+        (store / f"{name}.damaged").unlink(missing_ok=True)
+
+
 def main(program=None, tests=None):
     global PROGRAM, TESTS
     PROGRAM, TESTS = pathlib.Path(program or PROGRAM).resolve(), pathlib.Path(tests or TESTS).resolve()
-    for test in (test_calls, test_patterns, test_descriptions):
+    for test in (test_calls, test_patterns, test_descriptions, test_fragments_like_descriptions, test_stores_with_such_files):
         with tempfile.TemporaryDirectory() as scratch:
             test(pathlib.Path(scratch))
     for what in failed:

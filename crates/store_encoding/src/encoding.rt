@@ -22,8 +22,8 @@ use std::thread::Threads;
 use store_faults::{FileFault, fragment_name, source_fault};
 use store_files::{Target, is_staged, is_there};
 use store_folder::{
-    DESCRIPTION, Described, Digest, KEPT, Links, SystemFolder, is_ambiguous, open_fragment,
-    path_in, read_description,
+    Described, Digest, KEPT, Links, SystemFolder, is_description_name, open_fragment, path_in,
+    read_description,
 };
 use store_progress::{Progress, refuse_over_limit};
 use store_repair::fragment_length;
@@ -158,12 +158,15 @@ fn refuse_names(
     name: &str,
 ) -> Result<(), FileFault> {
     let alloc = rt.alloc();
-    let names = target.names(alloc, name)?;
-    let is_ambiguous = is_ambiguous(alloc, &target.pattern, target.code)?;
-    let is_taken = |fragment: &String| {
-        fragment.ends_with(KEPT) || (is_ambiguous && fragment.ends_with(DESCRIPTION))
-    };
-    if names.iter().any(is_taken) || is_staged(name) || !target.has_names(alloc, name)? {
+    for fragment in target.names(alloc, name)? {
+        let fragment = fragment.as_str();
+        if fragment.ends_with(KEPT)
+            || is_description_name(alloc, &target.pattern, target.code, fragment)?
+        {
+            return Err(no_name(rt, path));
+        }
+    }
+    if is_staged(name) || !target.has_names(alloc, name)? {
         return Err(no_name(rt, path));
     }
     Ok(())

@@ -38,8 +38,8 @@ pub use separate::{SeparateFile, SeparateStore};
 pub use site::Site;
 pub use store_names::{
     DESCRIPTION, KEPT, Layout, Part, Pattern, PatternFault, description_names,
-    first_description_name, is_ambiguous, is_folder_of, is_left_by, is_of_runs, lock_name, path_in,
-    tag_of_part,
+    first_description_name, is_description_name, is_folder_of, is_left_by, is_of_runs, lock_name,
+    path_in, tag_of_part,
 };
 pub use store_records::{Described, Digest, MOST_BYTES, Sums, SumsFault, digits_of};
 pub use stores::{Found, Placed, StripeFiles};

@@ -24,7 +24,7 @@ impl Listing {
         if !inside.is_empty() && !is_folder_of(alloc, pattern, wanted.code, stripe, inside)? {
             return Ok(false);
         }
-        let may_be_fragment = self.is_ambiguous && pattern.read(wanted.code, name).is_some();
+        let may_be_fragment = pattern.read(wanted.code, name).is_some();
         if self.names.is_described(stripe) && !may_be_fragment {
             return Ok(true);
         }

@@ -8,7 +8,7 @@ use std::collections::BTreeSet;
 use std::fs::{self, Metadata};
 use std::io::{self, ErrorKind};
 use store_folder::{Links, followed, look_at};
-use store_names::{disk_folders, is_ambiguous, is_of_runs, last_of, path_in};
+use store_names::{described_stripe, disk_folders, is_of_runs, last_of, path_in};
 use stores::Found;
 
 /// The folder that a file system keeps for what it finds of lost files: no store's, and no stripe's.
@@ -33,8 +33,6 @@ pub struct Listing {
     pub foreign: Option<Foreign>,
     /// The first path of those that were to be watched that was found to be one of the store's.
     pub watched: Option<String>,
-    /// Whether names of descriptions may be those of fragments.
-    pub(crate) is_ambiguous: bool,
     /// Whether fragments of other parts are looked at too.
     looks_at_all: bool,
 }
@@ -51,7 +49,6 @@ impl Drop for Listing {
             linked: _,
             foreign: _,
             watched: _,
-            is_ambiguous: _,
             looks_at_all: _,
         } = self;
     }
@@ -59,7 +56,7 @@ impl Drop for Listing {
 
 /// Lists the folder at a path. Names that don't fit its pattern are left alone. A folder in it that can't be listed costs what is in it.
 pub fn list(rt: &HostRuntime, folder: &str, wanted: &Wanted<'_>) -> io::Result<Listing> {
-    let mut listing = Listing::new(rt, wanted)?;
+    let mut listing = Listing::new(rt, wanted);
     match listing.add_all(rt, folder, wanted) {
         Ok(()) => Ok(listing),
         Err(error) => Err(error),
@@ -68,11 +65,9 @@ pub fn list(rt: &HostRuntime, folder: &str, wanted: &Wanted<'_>) -> io::Result<L
 
 impl Listing {
     /// What is known before anything is listed.
-    fn new(rt: &HostRuntime, wanted: &Wanted<'_>) -> Result<Listing, AllocError> {
+    fn new(rt: &HostRuntime, wanted: &Wanted<'_>) -> Listing {
         let alloc = rt.alloc();
-        let is_ambiguous = is_ambiguous(alloc, &wanted.pattern, wanted.code)?;
-        let may_be_fragment = wanted.watched.iter().any(Watched::may_be_fragment);
-        Ok(Listing {
+        Listing {
             names: StripeNames::new(alloc, wanted.part),
             unlisted: Vec::new(alloc),
             leftovers: Vec::new(alloc),
@@ -82,9 +77,8 @@ impl Listing {
             linked: BTreeSet::new(alloc),
             foreign: None,
             watched: None,
-            is_ambiguous,
-            looks_at_all: is_ambiguous || may_be_fragment,
-        })
+            looks_at_all: wanted.watched.iter().any(Watched::may_be_fragment),
+        }
     }
 
     /// Adds all that is in the store's folder, and below it where fragments are there.
@@ -260,7 +254,8 @@ impl Listing {
     }
 
     /// Keeps a name of the store, unless it is that of another part's fragment: such are only counted, so that a part costs its part, and
-    /// listing the names. Where a watched path may be a fragment of any part by another name, all are looked at.
+    /// listing the names. It is kept too if it may be that of a description. Where a watched path may be a fragment of any part by another
+    /// name, all are looked at.
     fn keep_name(
         &mut self,
         wanted: &Wanted<'_>,
@@ -268,8 +263,9 @@ impl Listing {
         names: &mut Vec<String>,
     ) -> Result<(), AllocError> {
         if wanted.part.is_some() && wanted.has_stripes && !self.looks_at_all {
+            let may_describe = described_stripe(last_of(name.as_str())).is_some();
             if let Some((stripe, _)) = wanted.pattern.read(wanted.code, name.as_str()) {
-                if !self.names.is_wanted(stripe) {
+                if !may_describe && !self.names.is_wanted(stripe) {
                     self.names.note_name();
                     return Ok(());
                 }

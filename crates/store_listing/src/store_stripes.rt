@@ -3,6 +3,7 @@ use crate::votes::are_stripe;
 use lrc_code::{Code, Place};
 use std::alloc::{AllocError, Global};
 use std::collections::{BTreeMap, BTreeSet};
+use store_names::{Pattern, described_stripe, last_of};
 use store_records::MOST_BYTES;
 use stores::{Found, StripeFiles};
 
@@ -34,34 +35,53 @@ impl Drop for StoreStripes {
 }
 
 impl StoreStripes {
-    /// Whether files are the descriptions of a stripe, and no stripe of their own.
-    fn describes(&self, name: &str, files: &StripeFiles, ending: Option<&str>) -> bool {
-        let Some(ending) = ending else {
-            return false;
-        };
-        let Some(stripe) = name.strip_suffix(ending) else {
-            return false;
-        };
+    /// Whether the files of a name are descriptions of stripes, and no stripe of their own.
+    fn describes(
+        &self,
+        alloc: Global,
+        pattern: &Pattern<'_>,
+        code: Code,
+        name: &str,
+        files: &StripeFiles,
+    ) -> Result<bool, AllocError> {
         let is_short = |found: &Found| {
             match *found {
                 Found::File { length } => length <= MOST_BYTES,
                 _ => true,
             }
         };
-        self.described.contains(stripe) && files.found.iter().all(is_short)
+        if !files.found.iter().all(is_short) {
+            return Ok(false);
+        }
+        for place in &Place::ALL {
+            if files.at(*place) != Found::Absent {
+                let Some(file) = pattern.name_of(alloc, code, name, *place)? else {
+                    return Ok(false);
+                };
+                if !self.is_described_by(file.as_str()) {
+                    return Ok(false);
+                }
+            }
+        }
+        Ok(true)
+    }
+
+    /// Whether a name in the store is that of a description, by its last part, of a stripe which is described.
+    fn is_described_by(&self, name: &str) -> bool {
+        described_stripe(last_of(name)).is_some_and(|stripe| self.described.contains(stripe))
     }
 
     /// Takes the files of each name for those of a stripe, for its descriptions, or each for one that is alone.
     pub(crate) fn settle_all(
         &mut self,
         alloc: Global,
+        pattern: &Pattern<'_>,
         code: Code,
-        ending: Option<&str>,
         files: BTreeMap<String, StripeFiles>,
         expected: &BTreeSet<String>,
     ) -> Result<(), AllocError> {
         for (name, found) in files {
-            if !self.describes(name.as_str(), &found, ending) {
+            if !self.describes(alloc, pattern, code, name.as_str(), &found)? {
                 let is_expected = expected.contains(name.as_str());
                 self.settle(alloc, code, name, found, is_expected)?;
             }

@@ -11,7 +11,7 @@ use crate::votes::{Others, Votes, are_stripe, others_of, placed_code, said_by};
 use lrc_code::{Code, Place};
 use std::alloc::{AllocError, Global};
 use std::collections::{BTreeMap, BTreeSet};
-use store_names::Part;
+use store_names::{Part, Pattern};
 use stores::{Found, StripeFiles};
 
 /// What names say of a store's stripes, while they are read.
@@ -216,12 +216,12 @@ impl StripeNames {
         others_of(code, self.by_descriptions, self.by_places(code))
     }
 
-    /// The stripes of this code. `ending` is how names end of files that describe stripes, where a stripe's own name may end so too.
+    /// The stripes of this code, whose fragments are named by a pattern.
     pub fn settled(
         self,
         alloc: Global,
+        pattern: &Pattern<'_>,
         code: Code,
-        ending: Option<&str>,
     ) -> Result<StoreStripes, AllocError> {
         let StripeNames {
             part: _,
@@ -239,7 +239,7 @@ impl StripeNames {
             described,
             alone: Vec::new(alloc),
         };
-        stripes.settle_all(alloc, code, ending, files, &expected)?;
+        stripes.settle_all(alloc, pattern, code, files, &expected)?;
         stripes.add_expected(expected)?;
         stripes.add_doubtful(doubtful)?;
         stripes.block(blocked);

@@ -1,5 +1,6 @@
 -- The names of the descriptions of stripes.
 use Rattle.std.specs.Prelude.{◌≡◌, ℕ, ◌<◌, List, [], ◌∷◌, ◌++◌, length, map, codes, ◌⊎◌}
+use Rattle.std.specs.List.{Contains}
 use Rattle.lrc_code.specs.declared.codes.Code.{Code as CodeName}
 use Rattle.store_names.specs.declared.patterns.Pattern.{Pattern}
 use Rattle.store_names.specs.Folders.{AreFolders}
@@ -25,3 +26,10 @@ pub record AreDescriptions (p : Pattern) (code : CodeName) (stripe : List ℕ) (
   pub folders : List (List ℕ)
   pub are : AreFolders p code stripe folders
   pub is : names ≡ descriptions_in folders stripe
+
+-- a name is that of one of a stripe's descriptions
+pub record IsDescription (p : Pattern) (code : CodeName) (name : List ℕ) : Type 0 where
+  pub stripe : List ℕ
+  pub names : List (List ℕ)
+  pub are : AreDescriptions p code stripe names
+  pub is : Contains names name

@@ -1,10 +1,10 @@
 //! The names of descriptions: of a stripe `a`, `a.file` in each folder that has fragments of it; where all are in one folder, there is a
 //! second copy, `a.file.copy`.
-ghost use Rattle.std.specs.Prelude.{◌≡◌, [], ℕ, IfOk, List, MatchOption, codes, map, string_bytes};
-ghost use Rattle.store_names.specs.Descriptions.{AreDescriptions, Describes, description_in};
+ghost use Rattle.std.specs.Prelude.{◌≡◌, [], ℕ, IfOk, IsTrue, List, MatchOption, codes, map, string_bytes};
+ghost use Rattle.store_names.specs.Descriptions.{AreDescriptions, Describes, IsDescription, description_in};
 
-use crate::disks::stripe_folders;
-use crate::paths::path_in;
+use crate::disks::{has, stripe_folders};
+use crate::paths::{last_of, path_in};
 use crate::patterns::Pattern;
 use crate::texts::until;
 use lrc_code::Code;
@@ -78,12 +78,19 @@ fn name_in(alloc: Global, folder: &str, stripe: &str, ending: &str) -> Result<St
     Ok(name)
 }
 
-/// Whether the pattern takes the names of descriptions for those of fragments too, so that what is in a file says which it is.
-pub fn is_ambiguous(alloc: Global, pattern: &Pattern<'_>, code: Code) -> Result<bool, AllocError> {
-    for name in description_names(alloc, pattern, code, "a")? {
-        if pattern.read(code, name.as_str()).is_some() {
-            return Ok(true);
-        }
-    }
-    Ok(false)
+/// Whether a name in the store is that of a stripe's description. A fragment may have it too by some patterns, as
+/// `disk{shard}/{stripe}`, so that what is in the file says which it is.
+pub fn is_description_name(
+    alloc: Global,
+    pattern: &Pattern<'_>,
+    code: Code,
+    name: &str,
+) -> Result<bool, AllocError>
+    ensures { IfOk result (λ is. IsTrue is → IsDescription pattern.now code name.now) }
+{
+    let Some(stripe) = described_stripe(last_of(name)) else {
+        return Ok(false);
+    };
+    let names = description_names(alloc, pattern, code, stripe)?;
+    Ok(has(names.as_slice(), name))
 }

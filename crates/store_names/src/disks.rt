@@ -37,8 +37,8 @@ fn add(alloc: Global, folders: &mut Vec<String>, folder: &str) -> Result<(), All
     Ok(())
 }
 
-/// Whether a folder is among some.
-fn has(folders: &[String], folder: &str) -> bool
+/// Whether a folder, or another name, is among some.
+pub(crate) fn has(folders: &[String], folder: &str) -> bool
     ensures { IsTrue result ↔ Contains (map string_bytes folders.now) folder.now }
 {
     folders.iter().any(|other| other.as_str() == folder)

@@ -26,7 +26,7 @@ mod temporary;
 mod texts;
 
 pub use descriptions::{
-    DESCRIPTION, described_stripe, description_names, first_description_name, is_ambiguous,
+    DESCRIPTION, described_stripe, description_names, first_description_name, is_description_name,
 };
 pub use disks::{disk_folders, is_folder_of, stripe_folders};
 pub use layouts::Layout;

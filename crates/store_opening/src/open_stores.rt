@@ -9,7 +9,7 @@ use lrc_code::Code;
 use std::alloc::AllocError;
 use std::mem;
 use store_faults::{COUNTER_PREFIX, REPORT_HEADER, ROW_BEGIN, StoreFault};
-use store_folder::{DESCRIPTION, Site, Sums, followed, is_ambiguous};
+use store_folder::{Site, Sums, followed};
 use store_listing::{Listing, StoreStripes, StripeNames, Wanted, Watched};
 use store_repair::Stripe;
 
@@ -302,12 +302,7 @@ fn stripes_of(
     let alloc = rt.alloc();
     let names = mem::replace(&mut listing.names, StripeNames::new(alloc, None));
     let is_empty = names.is_empty();
-    let ending = if is_ambiguous(alloc, &opening.pattern, code)? {
-        Some(DESCRIPTION)
-    } else {
-        None
-    };
-    let found = names.settled(alloc, code, ending)?;
+    let found = names.settled(alloc, &opening.pattern, code)?;
     if is_empty || (opening.part.is_none() && found.files.is_empty()) {
         return Err(StoreFault::NoFragments {
             folder: String::from_str(alloc, opening.folder)?,

@@ -6,7 +6,7 @@ use std::io::{Read, Stdin};
 use std::process::Abort;
 use std::str;
 use store_names::{
-    Layout, Locking, Part, Pattern, described_stripe, folder_in, is_ambiguous, is_left_by,
+    Layout, Locking, Part, Pattern, described_stripe, folder_in, is_description_name, is_left_by,
     is_of_runs, last_of, lock_name, locking_at, path_in, run_named, run_of, tag_of_part,
 };
 
@@ -100,7 +100,10 @@ fn given_by(
 ) -> Result<String, AllocError> {
     let (one, other) = cut(words);
     match what {
-        "is_ambiguous" => String::from_str(alloc, answer(is_ambiguous(alloc, pattern, code)?)),
+        "is_description_name" => {
+            let is_so = is_description_name(alloc, pattern, code, one)?;
+            String::from_str(alloc, answer(is_so))
+        }
         "name_of" => name_by(alloc, pattern, code, one, other),
         _ => fragment_by(alloc, pattern, code, one),
     }
