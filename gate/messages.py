@@ -10,7 +10,7 @@ import sys
 
 ROOT = pathlib.Path(__file__).resolve().parent.parent
 PAGE = ROOT / "man/rebuild-store.1"
-CRATES = ["rebuild_store", *sorted(it.name for it in (ROOT / "crates").glob("store_*") if not it.name.endswith("_tests"))]
+CRATES = ["folders", "rebuild_store", *sorted(it.name for it in (ROOT / "crates").glob("store_*") if not it.name.endswith("_tests"))]
 # What says how far a command is has no message.
 LEFT_OUT = {"progress.rt", "tasks.rt"}
 # Texts that are filled into others, or that others take the place of before anything is said.

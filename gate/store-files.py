@@ -916,6 +916,33 @@ def test_limit_on_length(place, choose):
         hold((ended.returncode, (place / "appended").read_bytes()) == (status, written), f"{many}: {ended.returncode} {ended.stderr!r}")
 
 
+def test_limit_met_by_a_repair(place, choose):
+    """A fragment that is damaged, or of a stripe whose files have several lengths, and longer than files may get is named and stays; what
+    was begun of it is taken away. Others are repaired beside it."""
+    store = place / "store"
+    run("encode", store, source(place, "a", choose.randbytes(300_000)), source(place, "b", choose.randbytes(6_000)), status=0)
+    files = there(store)
+
+    def limited():
+        resource.setrlimit(resource.RLIMIT_FSIZE, (20_480, resource.getrlimit(resource.RLIMIT_FSIZE)[1]))
+
+    damaged = files["a.x1"][:-1] + bytes([files["a.x1"][-1] ^ 1])
+    for odd, named in (({"a.x1": damaged}, "x1"), ({"a.y2": b"short", "a.p0": None}, "p0"), ({"a.y2": b"short"}, "y2")):
+        for name, data in odd.items():
+            (store / name).unlink() if data is None else (store / name).write_bytes(data)
+        (store / "b.x0").unlink()
+        before = there(store)
+        out, err = run("repair", "--replace-damaged", store, status=3, preexec_fn=limited)
+        hold(f"a.{named}: can't be put in its place: would be longer than files may get here: ulimit -f\n" in err, f"{odd.keys()}: {err}")
+        hold(there(store) == {**before, "b.x0": files["b.x0"]} and b"repaired 1 fragment," in out, f"{odd.keys()}: {sorted(there(store))}")
+        # What is lost comes back first: then a check covers what is put in the place of the other.
+        ran("repair", store)
+        run("repair", "--replace-damaged", store, status=0)
+        for name in odd:
+            (store / f"{name}.damaged").unlink(missing_ok=True)
+        hold(there(store) == files, f"{odd.keys()}: {sorted(there(store))}")
+
+
 def test_limit_on_other_files(place, choose):
     """The digests, a report and what a file has that is standard output aren't begun where they would get longer than files may."""
     store, limit = place / "store", 400

@@ -16,6 +16,7 @@
 mod exchanging;
 mod folder;
 mod giving;
+mod limits;
 mod paths;
 mod placing;
 mod record;
@@ -26,6 +27,7 @@ mod temporary;
 pub use exchanging::{Exchanged, exchange};
 pub use folder::{Folder, NewFile, OpenFile, WholeFile};
 pub use giving::give_path;
+pub use limits::{most_file_bytes, too_long};
 pub use paths::folder_of;
 pub use placing::{Placed, place, place_over};
 pub use record::{Call, Record, Written};

@@ -45,6 +45,17 @@ pub struct Rights {
     pub mode: u32,
 }
 
+impl Rights {
+    /// Those of what is said of something.
+    pub fn of(metadata: &Metadata) -> Rights {
+        Rights {
+            user: metadata.uid(),
+            group: metadata.gid(),
+            mode: metadata.mode(),
+        }
+    }
+}
+
 /// What is said of what is at a path, or of a file that is open.
 #[derive(Clone, Copy, Debug, PartialEq, Eq)]
 pub struct Status {

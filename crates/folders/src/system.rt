@@ -1,8 +1,10 @@
 //! The system's file system. Each method makes the one call of the system that it is named for, and records it with its answer. That it
-//! does so is not proved, since no contract can see what a call of the system does: it has to be read.
+//! does so is not proved, since no contract can see what a call of the system does: it has to be read. Bytes beyond the limit on the length
+//! of files aren't written: an error is answered in place of the signal.
 ghost use Rattle.std.specs.Prelude.{◌≡◌, ◌∷◌, length, string_bytes};
 
 use crate::folder::{Folder, NewFile, OpenFile, WholeFile};
+use crate::limits::{most_file_bytes, too_long};
 use crate::record::{Call, Record, Written};
 use crate::status::{Identity, Kind, Rights, Status, Time, is_absent};
 use std::fs::{self, File, Metadata, Permissions, TryLockError};
@@ -14,6 +16,8 @@ use std::os::unix::fs::{FileExt, MetadataExt, OpenOptionsExt, PermissionsExt, fc
 pub struct SystemFolder<'a> {
     rt: &'a HostRuntime,
     past: Record,
+    /// The most bytes that a file may get, once that was asked.
+    most: Option<u64>,
 }
 
 /// A file of the system that is open for reading.
@@ -27,6 +31,8 @@ pub struct SystemOpen {
 pub struct SystemNew {
     file: File,
     path: String,
+    /// How many bytes more it may get.
+    room: u64,
     /// What was called up to the call that made it.
     made: Record,
     written: Written,
@@ -58,7 +64,20 @@ impl<'a> SystemFolder<'a> {
         SystemFolder {
             rt,
             past: Record::new(),
+            most: None,
         }
+    }
+
+    /// The most bytes that a file may get, which is asked once.
+    fn most(&mut self) -> u64
+        ensures { self.new.past ≡ self.old.past }
+    {
+        let most = match self.most {
+            Some(most) => most,
+            None => most_file_bytes(self.rt).unwrap_or(u64::MAX),
+        };
+        self.most = Some(most);
+        most
     }
 
     /// Notes a call in what was recorded, with whether it ended well.
@@ -84,11 +103,7 @@ fn status_of(metadata: &Metadata) -> Status {
         kind,
         length: metadata.len(),
         identity: Identity::of(metadata),
-        rights: Rights {
-            user: metadata.uid(),
-            group: metadata.gid(),
-            mode: metadata.mode(),
-        },
+        rights: Rights::of(metadata),
         paths: metadata.nlink(),
         modified: Time {
             seconds: metadata.mtime(),
@@ -123,7 +138,13 @@ impl NewFile for SystemNew {
     }
 
     fn append(&mut self, bytes: &[u8]) -> io::Result<()> {
-        let answer = self.file.write_all(bytes);
+        let count = bytes.len() as u64;
+        let answer = if count > self.room {
+            Err(too_long())
+        } else {
+            self.file.write_all(bytes)
+        };
+        self.room = self.room.saturating_sub(count);
         self.written = Written::with(&self.written, bytes, answer.is_ok());
         answer
     }
@@ -188,6 +209,7 @@ impl Folder for SystemFolder<'_> {
     }
 
     fn create_new(&mut self, path: &str, mode: u32) -> io::Result<SystemNew> {
+        let room = self.most();
         let mut options = File::options();
         options.write(true).create_new(true).mode(mode);
         let answer = match String::from_str(self.rt.alloc(), path) {
@@ -199,6 +221,7 @@ impl Folder for SystemFolder<'_> {
         Ok(SystemNew {
             file,
             path,
+            room,
             made: self.past.again(),
             written: Written::new(),
         })
@@ -208,6 +231,7 @@ impl Folder for SystemFolder<'_> {
         let SystemNew {
             file,
             path,
+            room: _,
             made,
             written,
         } = file;

@@ -18,7 +18,8 @@ mod reads;
 mod turns;
 
 pub use counting::{Counted, CountedSource};
-pub use limits::{allow_file, allow_output, most_file_bytes, refuse_over_limit, too_long};
+pub use folders::{most_file_bytes, too_long};
+pub use limits::{allow_file, allow_output, refuse_over_limit};
 pub use progress::{Operation, Progress, Task};
 pub use reads::{CountedOpen, CountedReads, CountingFolder};
 pub use turns::Turns;
