@@ -457,6 +457,43 @@ def test_replacement_that_lost_a_fragment(place, choose):
     run("scrub", store, status=0)
 
 
+def test_replacement_that_lost_its_first_fragments(place, choose):
+    """The new file is read, and replaces the old one, whichever fragments of it are lost, as far as the code gives them back."""
+    for names, lost in (([], ("x0", "x1")), ([], ("x0", "x1", "y0")), (DISKS, (0, 1)), (DISKS, (0, 1, 9))):
+        store, old, new = begun_replacement(place, choose, *names)
+        gone = [f"disk{one}/a" if names else f"a.{one}" for one in lost]
+        for one in gone:
+            (store / (f"{one}{STAGED}" if names else one.replace("a.", f"a{STAGED}."))).unlink()
+        for one in gone:
+            (store / one).unlink()
+        hold(run("read", *names, store, "a", status=0)[0] == new, f"{names}, without {lost}: not the new file is read")
+        run("encode", "--replace", *names, store, source(place, "a", new), status=0)
+        hold(not [it for it in there(store) if STAGED in it], sorted(there(store)))
+        run("repair", "--code", "6-2-2", *names, store, status=0)
+        hold(decoded(store, "a", *names[1:]) == new, f"{names}, without {lost}: not the new file")
+        shutil.rmtree(store)
+
+
+def test_replacement_beside_disks_that_fail(place, choose):
+    """A file is read where something of it can't be looked at on some disks, also beside what was to replace it."""
+    store, old, new = begun_replacement(place, choose, *DISKS)
+    for one in (0, 1):
+        shutil.rmtree(store / f"disk{one}")
+        (store / f"disk{one}").symlink_to(f"disk{one}")
+    hold(run("read", "--follow-links", *DISKS, store, "a", status=0)[0] == new, "not the new file is read")
+    for path in store.rglob(f"*{STAGED}*"):
+        path.unlink()
+    for one in (0, 1):
+        (store / f"disk{one}").unlink()
+        (store / f"disk{one}").mkdir()
+    # The old file was to be read where nothing was begun.
+    hold(run("read", *DISKS, store, "a", status=0)[0] == old, "not the old file is read")
+    for one in (0, 1):
+        (store / f"disk{one}").rmdir()
+        (store / f"disk{one}").symlink_to(f"disk{one}")
+    hold(run("read", "--follow-links", *DISKS, store, "a", status=0)[0] == old, "not the old file is read beside disks that fail")
+
+
 def test_replacement_by_one_description(place, choose):
     """Any copy of the new file's description says that all of it is there."""
     for odd in (None, b"odd"):

@@ -1,5 +1,5 @@
 //! What the copies of a file's description say.
-use crate::staging::{has_some, no_stored};
+use crate::staging::{has_some, is_begun, no_stored};
 use crate::stored_file::StoredFile;
 use crate::target::Target;
 use lrc_code::{Code, Place};
@@ -111,6 +111,11 @@ pub fn first_described(
         }
     }
     Ok(None)
+}
+
+/// Whether there is a stripe of a name that is to replace another one, whole, as one of its descriptions says.
+pub fn is_whole(rt: &HostRuntime, file: &StoredFile<'_, '_>) -> Result<bool, FileFault> {
+    Ok(is_begun(rt, file, Code::Wide)? && first_described(rt, file)?.is_some())
 }
 
 /// The name of the description of a stripe in the store's own folder, which a store that was made before has beside the copies that are

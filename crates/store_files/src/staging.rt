@@ -22,31 +22,48 @@ pub fn is_staged(name: &str) -> bool {
     name.ends_with(STAGED)
 }
 
-/// Whether a stripe of a name that is to replace another one has been begun: its first fragments are made first and go last.
+/// Whether a stripe of a name that is to replace another one has been begun: whichever of its fragments is there. If none is seen, what
+/// can't be looked at, as on a disk that fails, counts as not there.
 pub fn is_begun(
     rt: &HostRuntime,
     file: &StoredFile<'_, '_>,
     code: Code,
 ) -> Result<bool, FileFault> {
-    has_some(rt, file, code, &[Place::X0, Place::X1])
+    match has_some(rt, file, code, code.places()) {
+        Err(fault) if !matches!(&fault, FileFault::OutOfMemory) => Ok(false),
+        is_begun => is_begun,
+    }
 }
 
-/// Whether there is anything under the name of a fragment of a stripe at one of some places.
+/// Whether there is anything under the name of a fragment of a stripe at one of some places, whatever can't be looked at of the others.
 pub fn has_some(
     rt: &HostRuntime,
     file: &StoredFile<'_, '_>,
     code: Code,
     places: &[Place],
 ) -> Result<bool, FileFault> {
-    let alloc = rt.alloc();
+    let mut refused = None;
     for place in places {
-        let name = fragment_name(alloc, &file.pattern, code, file.name, *place)?;
-        let path = path_in(alloc, file.folder, name.as_str())?;
-        if is_there(rt, path.as_str())? {
-            return Ok(true);
+        match has_fragment(rt, file, code, *place) {
+            Ok(true) => return Ok(true),
+            Ok(false) => {}
+            Err(fault) => refused = Some(fault),
         }
     }
-    Ok(false)
+    refused.map_or(Ok(false), Err)
+}
+
+/// Whether there is anything under the name of a stripe's fragment at a place.
+fn has_fragment(
+    rt: &HostRuntime,
+    file: &StoredFile<'_, '_>,
+    code: Code,
+    place: Place,
+) -> Result<bool, FileFault> {
+    let alloc = rt.alloc();
+    let name = fragment_name(alloc, &file.pattern, code, file.name, place)?;
+    let path = path_in(alloc, file.folder, name.as_str())?;
+    is_there(rt, path.as_str())
 }
 
 /// That a store has no file of a name.

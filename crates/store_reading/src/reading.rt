@@ -9,10 +9,9 @@ ghost use Rattle.std.specs.Prelude.{◌≡◌, vec_len};
 use choosing::set_that_fits;
 use destination::write_at;
 use fragments::{Fragments, Missing, open_fragments};
-use lrc_code::Code;
 use output::write_out;
 use store_faults::FileFault;
-use store_files::{Sought, StoredFile, descriptions_of, first_described, is_begun, staged_name};
+use store_files::{Sought, StoredFile, descriptions_of, is_whole, staged_name};
 use store_folder::SystemFolder;
 
 /// What is done with a file that is read.
@@ -39,7 +38,7 @@ pub fn read_file(
         name: staged.as_str(),
         ..*file
     };
-    if is_begun(rt, &staged, Code::Wide)? && first_described(rt, &staged)?.is_some() {
+    if is_whole(rt, &staged)? {
         return read_fitting(rt, &staged, output);
     }
     read_fitting(rt, file, output)
