@@ -1140,6 +1140,33 @@ def test_descriptions_from_digests(place, choose):
         hold(not (store / "a.file").exists(), f"{length}: a description was made of which nothing is known")
 
 
+def test_rights_of_descriptions_from_digests(place, choose):
+    """Where no copy of a description is left, what is made has the owner and the rights of the fragments, and none that one of them hasn't;
+    and nobody but its user may read it where these aren't of one owner."""
+    store, names = place / "store", ("a.file", "a.file.copy")
+    run("encode", store, source(place, "a", choose.randbytes(6_000)), status=0)
+    owners = [(os.getuid(), os.getgid()), (1_234, 4_321)] if os.getuid() == 0 else [(os.getuid(), os.getgid())]
+
+    def made(modes, owned):
+        for number, one in enumerate(PLACES):
+            (store / f"a.{one}").chmod(modes[number % len(modes)])
+            if os.getuid() == 0:
+                os.chown(store / f"a.{one}", *owned[number % len(owned)])
+        for name in names:
+            (store / name).unlink()
+        run("repair", store, status=0)
+        rights = [(stat.S_IMODE(it.st_mode), (it.st_uid, it.st_gid)) for it in map(os.stat, (store / name for name in names))]
+        hold(rights[0] == rights[1], rights)
+        return rights[0]
+
+    for owner in owners:
+        for modes, mode in (([0o644], 0o644), ([0o640, 0o644], 0o640), ([0o644, 0o664, 0o604], 0o604), ([0o600], 0o600), ([0o755], 0o644)):
+            hold(made(modes, [owner]) == (mode, owner), f"{modes} {owner}: {made(modes, [owner])}")
+    if len(owners) > 1:
+        hold(made([0o644], owners) == (0o600, owners[0]), "others may read it, or it was given away")
+        hold(made([0o644], [(0, 0), (0, 4_321)]) == (0o600, owners[0]), "another group may read it")
+
+
 def test_long_names(place, choose):
     """A fragment whose second name would be too long is left, and a line says why."""
     store = place / "store"

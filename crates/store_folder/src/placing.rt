@@ -14,7 +14,6 @@ use folders::{
 };
 use std::fs::{self, Metadata};
 use std::io::{self, ErrorKind};
-use std::os::unix::fs::MetadataExt;
 use stores::{NewFragment, Placed};
 
 /// The rights of a new file that nobody but its user may read.
@@ -56,12 +55,12 @@ impl NewFile {
     /// Gives the file the owner, the group and the rights to read and write of another one. Who may not give it away keeps it as it is.
     /// Says whether it was given.
     pub fn take_after(&self, other: &Metadata) -> io::Result<bool> {
-        let rights = Rights {
-            user: other.uid(),
-            group: other.gid(),
-            mode: other.mode(),
-        };
-        take_after(&self.unfinished.file, &rights)
+        self.take_rights(&Rights::of(other))
+    }
+
+    /// Gives the file an owner, a group and the rights to read and write, as the call before does those of another file.
+    pub fn take_rights(&self, rights: &Rights) -> io::Result<bool> {
+        take_after(&self.unfinished.file, rights)
     }
 
     /// The path at which it is until it gets its name.

@@ -1,12 +1,13 @@
 //! The copies of the description of a stripe's file: which are as they should be, and making those that are lost from one that is believed.
 mod looking;
 mod remaking;
+mod rights;
 
-use folders::Folder;
+use folders::{Folder, Rights};
 use looking::Seen;
 use remaking::described_as;
+use rights::rights_of_files;
 use std::alloc::AllocError;
-use std::fs::Metadata;
 use std::io::{self, ErrorKind};
 use store_faults::{Copies, CopyFinding, CopyReason, Descriptions, FoundCopy};
 use store_folder::{
@@ -57,6 +58,10 @@ pub fn tend_descriptions(
         (believed, _) => believed,
     };
     done.described = believed;
+    let like = match like {
+        None if matches!(work, CopyWork::Make { .. }) => rights_of_files(rt, site, stripe)?,
+        like => like,
+    };
     let tended = Tended {
         site,
         work,
@@ -76,8 +81,8 @@ struct Tended<'a> {
     site: &'a Site<'a>,
     work: CopyWork,
     believed: Option<Described>,
-    /// What is said of a copy that is there.
-    like: Option<Metadata>,
+    /// The owner and the rights of a copy that is there, or else of all files of the stripe.
+    like: Option<Rights>,
 }
 
 impl Tended<'_> {
@@ -156,7 +161,7 @@ fn made(
     name: &str,
     described: &Described,
     replaces: bool,
-    like: Option<&Metadata>,
+    like: Option<&Rights>,
 ) -> Result<Option<CopyReason>, AllocError> {
     match make(rt, site, name, described, replaces, like) {
         Ok(Placed::Placed) => Ok(None),
@@ -166,14 +171,14 @@ fn made(
     }
 }
 
-/// Makes a copy, with the owner and the rights of another one.
+/// Makes a copy, with the owner and the rights of another one, or else of the stripe's other files.
 fn make(
     rt: &HostRuntime,
     site: &Site<'_>,
     name: &str,
     described: &Described,
     replaces: bool,
-    like: Option<&Metadata>,
+    like: Option<&Rights>,
 ) -> io::Result<Placed> {
     let alloc = rt.alloc();
     refuse_linked_folders(rt, site.target, name, site.links)?;
@@ -195,11 +200,11 @@ fn make(
     Ok(placed)
 }
 
-/// Writes the text of a copy, and gives the file the owner and the rights of another copy, if there is one.
-fn fill(file: &mut NewFile, text: &[u8], like: Option<&Metadata>) -> io::Result<()> {
+/// Writes the text of a copy, and gives the file the owner and the rights of another file, if there is one.
+fn fill(file: &mut NewFile, text: &[u8], like: Option<&Rights>) -> io::Result<()> {
     file.append(text)?;
     if let Some(like) = like {
-        file.take_after(like)?;
+        file.take_rights(like)?;
     }
     Ok(())
 }

@@ -1,8 +1,9 @@
 //! What is there of the copies of a stripe's description.
 use crate::copies::DescribedStripe;
+use folders::Rights;
 use sha2::{Digest as _, Sha256};
 use std::alloc::AllocError;
-use std::fs::{self, Metadata};
+use std::fs;
 use std::io::{self, ErrorKind};
 use store_faults::{Copies, CopyState, FoundCopy, NO_MEDIUM};
 use store_folder::{
@@ -14,8 +15,8 @@ use store_names::folder_in;
 #[derive(Drop)]
 pub(crate) struct Seen {
     pub(crate) copies: Copies,
-    /// What is said of one that is there.
-    pub(crate) like: Option<Metadata>,
+    /// The owner and the rights of one that is there.
+    pub(crate) like: Option<Rights>,
 }
 
 impl Seen {
@@ -62,7 +63,9 @@ impl Seen {
         let path = path_in(rt.alloc(), site.folder, name.as_str())?;
         let state = state_at(rt, site, path.as_str())?;
         if let (CopyState::There(..), None) = (&state, &self.like) {
-            self.like = fs::metadata(rt, path.as_str()).ok();
+            self.like = fs::metadata(rt, path.as_str())
+                .ok()
+                .map(|there| Rights::of(&there));
         }
         if let (Some(sums), None) = (site.sums, self.copies.listed) {
             self.copies.listed = sums.digest_of(name.as_str()).copied();
