@@ -329,6 +329,27 @@ def test_replace(place, choose):
     hold("a stripe can't have this name" in err, err)
 
 
+def test_replace_what_nothing_describes(place, choose):
+    """Fragments whose descriptions are all lost are replaced too, where that is asked for, and are refused otherwise."""
+    for names, copies in (([], ("a.file", "a.file.copy")), (DISKS, tuple(f"disk{number}/a.file" for number in range(10)))):
+        for left in (PLACES, PLACES[4:5]):
+            store = place / f"store-{len(names)}-{len(left)}"
+            old, new = choose.randbytes(4_000), choose.randbytes(900)
+            run("encode", "--make-folders", *names, store, source(place, "a", old), source(place, "b", b"b"), status=0)
+            for name in copies:
+                (store / name).unlink()
+            for number, one in enumerate(PLACES):
+                if one not in left:
+                    (store / (f"disk{number}/a" if names else f"a.{one}")).unlink()
+            file, before = source(place, "a", new), there(store)
+            _, err = run("encode", *names, store, file, status=1)
+            hold("--replace replaces the file" in err and there(store) == before, err)
+            run("encode", "--replace", *names, store, file, status=0)
+            hold(decoded(store, "a", *names[1:]) == new and decoded(store, "b", *names[1:]) == b"b", "not the new file")
+            hold(are_right(store) and not [it for it in there(store) if ".rebuild-store" in it], sorted(there(store)))
+            run("scrub", "--code", "6-2-2", *names, store, status=0)
+
+
 def test_replace_killed(place, choose):
     """A run that replaces a file and is killed at any call leaves a store of which the old file or the new one can be read, by the name and
     with an exit status that says so; the same command again ends the work, and so does one that encodes the old file."""

@@ -66,15 +66,31 @@ pub fn encode_file<R: Threads + Sync>(
     if is_described(rt, target, name)? {
         given.digest = Some(source_digest(rt, &given)?);
     }
-    let fault = match refuse_others(rt, target, name, &given) {
-        Ok(()) => return encode_as(threads, rt, target, name, &given),
-        Err(fault) => fault,
-    };
-    if !target.replaces || !matches!(&fault, FileFault::Refused { .. }) {
-        return Err(fault);
+    if is_replaced(rt, target, name, &given)? {
+        return replace(threads, rt, target, name, &given);
     }
-    drop(fault);
-    replace(threads, rt, target, name, &given)
+    encode_as(threads, rt, target, name, &given)
+}
+
+/// Whether what is there of a file is to be replaced. What isn't replaced and isn't of the file that is given refuses it.
+fn is_replaced(
+    rt: &HostRuntime,
+    target: &Target<'_>,
+    name: &str,
+    given: &Given<'_>,
+) -> Result<bool, FileFault> {
+    match refuse_others(rt, target, name, given) {
+        // Nothing describes fragments that are there alone.
+        Ok(()) => Ok(target.replaces && given.digest.is_none() && has_fragments(rt, target, name)?),
+        Err(fault) if target.replaces && matches!(&fault, FileFault::Refused { .. }) => Ok(true),
+        Err(fault) => Err(fault),
+    }
+}
+
+/// Whether there is a fragment of a stripe.
+fn has_fragments(rt: &HostRuntime, target: &Target<'_>, name: &str) -> Result<bool, FileFault> {
+    let fragments = target.names(rt.alloc(), name)?;
+    has_any(rt, target, fragments.as_slice())
 }
 
 /// Refuses a file that can't be opened to be read, or hasn't so many bytes.
