@@ -565,7 +565,8 @@ def test_replacement_that_cannot_be_begun(place, choose):
     before = sorted(store.rglob("*"))
     ended = ran("encode", "--replace", *names, store, source(place, "a", bytes(300_000)),
                 preexec_fn=lambda: resource.setrlimit(resource.RLIMIT_FSIZE, (20_480, 20_480)))
-    hold(ended.returncode == 1 and b"ulimit -f" in ended.stderr, f"{ended.returncode}: {ended.stderr!r}")
+    said = b"rebuild-store: a: would have 50000 bytes, and no file may get more than 20480 here: ulimit -f\n"
+    hold((ended.returncode, ended.stderr) == (1, said), f"{ended.returncode}: {ended.stderr!r}")
     hold(sorted(store.rglob("*")) == before and decoded(store, "a", *names[1:]) == old, f"left {sorted(store.rglob('*'))}")
 
 

@@ -552,7 +552,7 @@ def test_stores_that_are_no_folders(place, choose):
         for command in (["repair", path], ["repair", path, "--part", "1/2"], ["repair", path, "--dry-run"], ["scrub", path], ["lost", path],
                         ["list", path], ["remove", path, "source"], ["encode", path, source]):
             said = run(*command, status=3)
-            hold(f"{path}: not a directory\n" in said.replace("Not", "not"), f"{command}: {said}")
+            hold(f"{path}: Not a directory\n" in said, f"{command}: {said}")
     hold(file.read_bytes() == b"no store" and stat.S_ISFIFO(fifo.lstat().st_mode), "what was given as a store was changed")
 
 

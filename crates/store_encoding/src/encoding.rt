@@ -58,6 +58,7 @@ pub fn encode_file<R: Threads + Sync>(
     finish_replacing(rt, target, name)?;
     let mut given = Given {
         path,
+        name,
         before: &before,
         digest: None,
         progress: source.progress,
@@ -105,6 +106,8 @@ fn refuse_unreadable(rt: &HostRuntime, path: &str, length: u64) -> Result<(), Fi
 #[derive(Clone, Copy)]
 pub(crate) struct Given<'a> {
     pub(crate) path: &'a str,
+    /// The name that it gets in the store.
+    pub(crate) name: &'a str,
     /// What was said of it before it was read.
     pub(crate) before: &'a Metadata,
     pub(crate) digest: Option<Digest>,
@@ -123,7 +126,7 @@ pub(crate) fn encode_as<R: Threads + Sync>(
     let length = given.before.len();
     let names = StripeFiles::of(alloc, target, name)?;
     let fragment_bytes = fragment_length(target.code, length as usize);
-    refuse_over_limit(rt, name, fragment_bytes as u64)?;
+    refuse_over_limit(rt, given.name, fragment_bytes as u64)?;
     let Encoded { digest, made } = make_encoded(threads, rt, target, name, given)?;
     let files = &mut SystemFolder::new(rt);
     let text = match description_of(rt, target.code, given, digest) {

@@ -17,7 +17,7 @@ mod stripe_names;
 mod votes;
 mod watching;
 
-pub use disks::Unlisted;
+pub use disks::{NOT_A_FOLDER, Unlisted};
 pub use expecting::expect_listed;
 pub use leaving::left_in;
 pub use listing::{Listing, list};

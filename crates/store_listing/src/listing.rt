@@ -1,5 +1,5 @@
 //! What is in a store: which fragments of which stripes, and how many bytes each has; no times are kept.
-use crate::disks::Unlisted;
+use crate::disks::{NOT_A_FOLDER, Unlisted};
 use crate::stripe_names::StripeNames;
 use crate::watching::{Foreign, Wanted, Watched};
 use folders::folder_of;
@@ -215,7 +215,7 @@ impl Listing {
         }
         if !metadata.is_dir() && !inside.is_empty() {
             if disk_folders(alloc, &wanted.pattern, wanted.code)?.is_some() {
-                let error = io::Error::from(ErrorKind::NotADirectory);
+                let error = io::Error::from_raw_os_error(NOT_A_FOLDER);
                 self.note_unlisted(alloc, folder, inside, error)?;
             }
             return Ok(false);

@@ -5,6 +5,7 @@ use std::fs::{self, File, TryLockError};
 use std::io::{self, ErrorKind, Write};
 use store_faults::{StoreFault, device_fault};
 use store_folder::{Links, Part, is_named, is_of_run, lock_name, open_as, open_regular, path_in};
+use store_listing::NOT_A_FOLDER;
 use store_names::Locking;
 
 /// How often the file of a part's lock is opened anew where another run has removed it meanwhile.
@@ -192,7 +193,7 @@ fn is_locked(rt: &HostRuntime, path: &str) -> bool {
 /// Opens a folder. Opening a FIFO would wait for a writer.
 fn open_folder(rt: &HostRuntime, folder: &str) -> io::Result<File> {
     if !fs::metadata(rt, folder)?.is_dir() {
-        return Err(io::Error::from(ErrorKind::NotADirectory));
+        return Err(io::Error::from_raw_os_error(NOT_A_FOLDER));
     }
     fs::open(rt, folder)
 }
