@@ -570,6 +570,18 @@ def test_replacement_that_cannot_be_begun(place, choose):
     hold(sorted(store.rglob("*")) == before and decoded(store, "a", *names[1:]) == old, f"left {sorted(store.rglob('*'))}")
 
 
+def test_folders_of_others_stay(place, choose):
+    """A folder that has the name of what is to replace a file, and that no run has made, stays where nothing is put into it."""
+    names, store = ["--names", "{stripe}/{place}"], place / "store"
+    run("encode", "--make-folders", *names, store, source(place, "a", b"old"), status=0)
+    (store / f"a{STAGED}").mkdir()
+    limited = {"preexec_fn": lambda: resource.setrlimit(resource.RLIMIT_FSIZE, (20_480, 20_480))}
+    for words, status, how in (([], 0, {}), (["--replace"], 0, {}), ([], 1, {}), (["--replace"], 1, limited)):
+        run("encode", *words, *names, store, source(place, "a", bytes(300_000) if status else b"old"), status=status, **how)
+        hold((store / f"a{STAGED}").is_dir(), f"{words}, {status}: a folder of others is gone")
+        hold(decoded(store, "a", *names[1:]) == b"old", f"{words}, {status}: another file")
+
+
 def test_digests_of_blocks_that_fail(place, choose):
     """A file of whose fragments one can't be read again, for its digest, isn't encoded, also where only its first block can't be read."""
     calls, store, file = Calls(place), place / "store", source(place, "a", choose.randbytes(6 * 300_000))

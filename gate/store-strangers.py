@@ -901,6 +901,32 @@ def test_leftovers_where_links_lead(place, choose):
     hold((store / "s.y0").read_bytes() == files["s.y0"], "the fragment isn't what it was")
 
 
+def test_linked_folder_that_cannot_be_listed(place, choose):
+    """A folder that a link leads to and that can't be listed is said, with the status of a device, and what runs left there stays."""
+    calls, store, outside = Calls(place), place / "store", place / "outside"
+    files = lay(store, choose)
+    outside.mkdir()
+    (store / "s.x0").rename(outside / "x0")
+    (store / "s.x0").symlink_to(outside / "x0")
+    command = [PROGRAM, "repair", store, "--follow-links"]
+
+    def begun(*how):
+        (store / "s.y0").unlink(missing_ok=True)
+        (outside / LEFTOVER).write_bytes(b"half")
+        return calls.run(command, *how)
+
+    for number, kind in enumerate(begun().kinds, 1):
+        if kind == "list":
+            ended = begun(number, errno.EIO)
+            if ended.paths == (str(outside),):
+                break
+    hold(ended.paths == (str(outside),), ended.text())
+    said = f"rebuild-store: {outside}: Input/output error: what runs that were killed have left there stays\n"
+    hold(ended.status == 3 and said in ended.err and (outside / LEFTOVER).exists(), ended.text())
+    hold((store / "s.y0").read_bytes() == files["s.y0"], "the fragment isn't what it was")
+    hold(f"{outside / LEFTOVER}: was left by a run that was killed, and is removed" in run(*command[1:], status=0), "it isn't removed")
+
+
 def test_kills_elsewhere(place, choose):
     """A run that is killed leaves nothing that stays in the way, also where it writes to another folder or to another disk by links."""
     calls = Calls(place)

@@ -1,7 +1,8 @@
 //! Folders of a store that are a stripe's own, since their names have the stripe's.
 use std::alloc::AllocError;
 use std::fs;
-use store_files::Target;
+use store_faults::FileFault;
+use store_files::{Target, is_there};
 use store_folder::refuse_linked_folders;
 use store_names::{folder_in, stripe_folders};
 
@@ -20,6 +21,22 @@ pub(crate) fn remove_own_folders(
         remove_levels(rt, target, folder.as_str(), others.as_slice())?;
     }
     Ok(())
+}
+
+/// Whether one of the folders is there that a stripe's fragments are to be in.
+pub(crate) fn has_folders(
+    rt: &HostRuntime,
+    target: &Target<'_>,
+    stripe: &str,
+) -> Result<bool, FileFault> {
+    let alloc = rt.alloc();
+    for folder in stripe_folders(alloc, &target.pattern, target.code, stripe)? {
+        let path = target.path(alloc, folder.as_str())?;
+        if is_there(rt, path.as_str())? {
+            return Ok(true);
+        }
+    }
+    Ok(false)
 }
 
 /// Removes a folder and those that it is in, as far as they aren't those of another stripe, and nothing is in them.

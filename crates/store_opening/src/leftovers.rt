@@ -2,7 +2,7 @@
 use crate::locks::Locks;
 use crate::sharing::OtherRun;
 use std::alloc::AllocError;
-use std::io;
+use std::io::{self, ErrorKind};
 use store_faults::{say, words_of};
 use store_folder::{Leftover, is_left_by, remove_leftover};
 use store_listing::{Listing, left_in};
@@ -23,15 +23,40 @@ pub fn remove_leftovers(
         }
     }
     for folder in &listing.linked {
-        // A folder that isn't there has nothing.
-        let Ok(paths) = left_in(rt, folder.as_str(), tag) else {
-            continue;
-        };
-        for path in &paths {
-            are_removed = remove(rt, locks, path.as_str(), false)? && are_removed;
-        }
+        are_removed = remove_linked(rt, locks, folder.as_str(), tag)? && are_removed;
     }
     Ok(are_removed)
+}
+
+/// The same of a folder that a link leads to. It is named if it can't be listed; one that isn't there has nothing.
+fn remove_linked(rt: &HostRuntime, locks: &Locks, folder: &str, tag: &str) -> io::Result<bool> {
+    let paths = match left_in(rt, folder, tag) {
+        Ok(paths) => paths,
+        Err(error) => return say_unlisted(rt, folder, error),
+    };
+    let mut are_removed = true;
+    for path in &paths {
+        are_removed = remove(rt, locks, path.as_str(), false)? && are_removed;
+    }
+    Ok(are_removed)
+}
+
+/// Says that a folder can't be listed, unless it isn't there. Says whether it isn't.
+fn say_unlisted(rt: &HostRuntime, folder: &str, error: io::Error) -> io::Result<bool> {
+    match error.kind() {
+        ErrorKind::NotFound | ErrorKind::NotADirectory => Ok(true),
+        ErrorKind::OutOfMemory => Err(error),
+        _ => {
+            let why = words_of(rt.alloc(), &error)?;
+            say(
+                rt,
+                format!(in rt.alloc();
+                    "rebuild-store: {folder}: {why}: what runs that were killed have left there stays"
+                ),
+            )?;
+            Ok(false)
+        }
+    }
 }
 
 /// Removes a file, and says so. Says whether it could be removed, or is to stay.

@@ -14,7 +14,7 @@ use crate::encoding::stripe_files::{StripeFiles, are_apart};
 use crate::encoding::subfolders::make_folders;
 use crate::encoding::sums::{forget_digests, write_new_sums};
 use crate::encoding::{Given, encode_as};
-use crate::own_folders::remove_own_folders;
+use crate::own_folders::{has_folders, remove_own_folders};
 use crate::removing::{has_any, remove_names};
 use folders::Folder;
 use std::alloc::{AllocError, Global};
@@ -35,17 +35,22 @@ pub(crate) fn replace<R: Threads + Sync>(
     given: &Given<'_>,
 ) -> Result<(), FileFault> {
     let staged = staged_name(rt.alloc(), name)?;
-    make_folders(rt, target, staged.as_str())?;
-    if let Err(fault) = encode_as(threads, rt, target, staged.as_str(), given) {
+    let staged = staged.as_str();
+    let had_folders = has_folders(rt, target, staged)?;
+    make_folders(rt, target, staged)?;
+    if let Err(fault) = encode_as(threads, rt, target, staged, given) {
         // Takes away what is there of it, as far as that can be done now.
         drop(finish_replacing(rt, target, name));
+        if !had_folders {
+            drop(remove_own_folders(rt, target, staged, name));
+        }
         return Err(fault);
     }
     finish_replacing(rt, target, name)
 }
 
 /// Ends what a run has begun that was to replace the file of a name: if all of the new file is there it replaces the old one, and otherwise
-/// what is there of it is removed.
+/// what is there of it is removed. Where nothing was begun, its folders stay too: they may be somebody else's.
 pub(crate) fn finish_replacing(
     rt: &HostRuntime,
     target: &mut Target<'_>,
@@ -71,9 +76,9 @@ fn finish_staged(
     };
     if is_begun(rt, &file, target.code)? {
         replace_files(rt, target, &file, name)?;
+        remove_own_folders(rt, target, staged, name)?;
     }
-    // Also where nothing was begun: its folders are made first.
-    Ok(remove_own_folders(rt, target, staged, name)?)
+    Ok(())
 }
 
 /// Replaces the files of a stripe by those of one that has been begun, if these are whole, and else removes these.
