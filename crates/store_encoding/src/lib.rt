@@ -8,6 +8,7 @@
 
 mod encoding;
 mod own_folders;
+mod refusing;
 mod removing;
 mod taking;
 

@@ -9,9 +9,10 @@ ghost use Rattle.store_encoding.specs.Taken.{GoesOf, IsTakenOut, KeepsRest};
 use crate::encoding::stripe_files::StripeFiles;
 use crate::encoding::sums::{forget_digests, write_new_sums};
 use crate::own_folders::remove_own_folders;
+use crate::refusing::refused;
 use crate::taking::take_files;
 use folders::Folder;
-use std::alloc::{AllocError, Global};
+use std::alloc::Global;
 use store_faults::{FileFault, device};
 use store_files::{Target, is_there, no_stored, own_description, refuse_linked, staged_name};
 use store_folder::{SystemFolder, description_names};
@@ -182,8 +183,5 @@ fn no_file(alloc: Global, names: &[String], index: usize) -> FileFault {
         Some(name) => name.as_str(),
         None => "",
     };
-    match format!(in alloc; "{name}: is no regular file, and isn't removed") {
-        Ok(what) => FileFault::Refused { what },
-        Err(AllocError) => FileFault::OutOfMemory,
-    }
+    refused(format!(in alloc; "{name}: is no regular file, and isn't removed"))
 }

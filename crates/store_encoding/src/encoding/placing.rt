@@ -6,8 +6,8 @@ ghost use Rattle.store_folder.specs.Placed.{content_of};
 ghost use Rattle.store_folder.specs.Temporary.{is_temporary};
 ghost use Rattle.store_encoding.specs.Encoded.{AreDone, AreThere, GivesEach, IsDueAt, contents_of};
 
+use crate::refusing::refused;
 use folders::{Folder, SystemNew};
-use std::alloc::AllocError;
 use std::io::{self, ErrorKind};
 use store_faults::{FileFault, device};
 use store_files::{Target, digest_at, is_there};
@@ -30,13 +30,9 @@ enum There {
 
 /// That a name of the store is taken.
 pub(crate) fn is_there_already(rt: &HostRuntime, name: &str) -> FileFault {
-    let what = format!(in rt.alloc();
+    refused(format!(in rt.alloc();
         "{name}: is there already, with other bytes: --replace replaces the file"
-    );
-    match what {
-        Ok(what) => FileFault::Refused { what },
-        Err(AllocError) => FileFault::OutOfMemory,
-    }
+    ))
 }
 
 /// Removes new files, all that can be removed.

@@ -1,5 +1,5 @@
 //! The files that are encoded.
-use std::alloc::AllocError;
+use crate::refusing::refused;
 use std::fs::{self, Metadata};
 use std::os::unix::fs::MetadataExt;
 use store_faults::{FileFault, device};
@@ -19,10 +19,7 @@ pub(crate) fn stripe_name<'a>(rt: &HostRuntime, path: &'a str) -> Result<&'a str
 
 /// That the name of the file at a path is none for a stripe.
 pub(crate) fn no_name(rt: &HostRuntime, path: &str) -> FileFault {
-    match format!(in rt.alloc(); "{path}: a stripe can't have this name") {
-        Ok(what) => FileFault::Refused { what },
-        Err(AllocError) => FileFault::OutOfMemory,
-    }
+    refused(format!(in rt.alloc(); "{path}: a stripe can't have this name"))
 }
 
 /// What is said of the regular file at a path.

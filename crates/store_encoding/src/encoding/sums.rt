@@ -6,8 +6,9 @@ ghost use Rattle.store_encoding.specs.Digests.{KeepsDigests};
 ghost use Rattle.store_encoding.specs.Names.{sums_path};
 ghost use Rattle.store_encoding.specs.Replaced.{IsSums, IsTextOf};
 
+use crate::refusing::refused;
 use folders::Folder;
-use std::alloc::{AllocError, Global};
+use std::alloc::Global;
 use std::io::{self, ErrorKind};
 use store_faults::{FileFault, device};
 use store_files::Target;
@@ -31,10 +32,7 @@ pub fn stored_sums(rt: &HostRuntime, folder: &str) -> Result<Sums, FileFault> {
 
 /// That what is at a path are no digests.
 fn no_sums(alloc: Global, path: &str, fault: &SumsFault) -> FileFault {
-    match format!(in alloc; "{path}: {fault}") {
-        Ok(what) => FileFault::Refused { what },
-        Err(AllocError) => FileFault::OutOfMemory,
-    }
+    refused(format!(in alloc; "{path}: {fault}"))
 }
 
 /// Takes the digests of some names out of those of the store.
