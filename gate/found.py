@@ -5,13 +5,14 @@ import hashlib
 import os
 import re
 
-# The digits at random that end the name of an unfinished file, but for those that a script gives one.
-AT_RANDOM = re.compile(r"-(?!0123456789abcdef$)[0-9a-f]{16}$")
+# What ends the name of an unfinished file: the number of the process that made it, which has ended, its host and digits at random, but for
+# those that a script gives one.
+OF_A_RUN = re.compile(r"-(?:[0-9]+@(.*)-)?(?!0123456789abcdef$)[0-9a-f]{16}$")
 
 
 def plain(name):
-    """A name without digits at random."""
-    return AT_RANDOM.sub("-at-random", name)
+    """A name without what is another in each run."""
+    return OF_A_RUN.sub(r"-of-a-run-\1", name)
 
 
 class Found:
@@ -37,8 +38,8 @@ class Found:
         return sorted(name for name in self.files if name.startswith(start))
 
     def state(self, *known):
-        """All that is here as a text, which is another where anything but times and digits at random is: names, bytes, modes, owners, and
-        which names are of one file. Bytes that one of the `known` files by names has are told by its number, others by their digest."""
+        """All that is here as a text, which is another where anything but times and runs' parts of names is: names, bytes, modes, owners,
+        and which names are of one file. Bytes that one of the `known` files by names has are told by its number, others by their digest."""
         lines = []
         for name, data in self.files.items():
             it, one = self.about[name], (name,)
