@@ -1,6 +1,8 @@
 //! What is made of a stripe whose files differ in length.
 use crate::repair::asserting::assert_holds;
-use crate::repair::cases::{Act, Case, REPLACING, WHOLE, are_findings, is_left_in, outcome_of, store_of};
+use crate::repair::cases::{
+    Act, Case, REPLACING, WHOLE, are_findings, is_left_in, outcome_of, store_of,
+};
 use crate::repair::samples::NARROW;
 use lrc_code::Place;
 use std::alloc::Global;
