@@ -1745,6 +1745,17 @@ def test_names_like_descriptions(place, choose):
     hold("can't have this name" in run("encode", store, source, *DISKS, status=1), "a file was encoded under names of descriptions")
 
 
+def test_names_like_descriptions_in_parts(place, choose):
+    """A stripe whose name ends as a description's is repaired with its part, whichever the stripe of such a description would be of."""
+    store = place / "in-parts"
+    files = lay_disks(store, choose, [f"s{number}.file" for number in range(8)], length=200)
+    for path in store.glob("disk3/*"):
+        path.unlink()
+    for part in ("1/2", "2/2"):
+        run("repair", store, *DISKS, "--part", part, status=0)
+    hold(below(store) == files, f"not all are repaired: {sorted(files.keys() - below(store).keys())}")
+
+
 def test_stripe_that_changes_meanwhile(place, choose):
     """Of a stripe that is rewritten while it is read nothing is put in its place, and a scrub says so too."""
     store = place / "rewritten"
@@ -1944,6 +1955,23 @@ def test_source_that_changes_meanwhile(place, choose):
     hold(refused == set(numbers), f"no changed file was refused, at the calls {numbers}")
 
 
+def test_source_that_changes_while_it_is_digested(place, choose):
+    """A file that was encoded before, and is rewritten while its digest is read, is refused as changed."""
+    calls, store, source, data = Calls(place), place / "digested", place / "digested-source", choose.randbytes(6_000)
+    command, tried = [PROGRAM, "encode", store, source], 0
+    source.write_bytes(data)
+    run("encode", store, source, status=0)
+    for number, kind in enumerate(calls.run(command).kinds, 1):
+        if kind == "read" and calls.run(command, number, errno.EIO).paths == (str(source),):
+            with waiting(calls, place, command, number) as go_on:
+                source.write_bytes(choose.randbytes(6_000))
+                status, said = go_on()
+            hold(status == 1 and f"{source}: changed while it was read\n" in said, f"call {number}: status {status}: {said}")
+            source.write_bytes(data)
+            tried += 1
+    hold(tried > 0, "it isn't read")
+
+
 def test_lengths_that_nothing_decides(place, choose):
     """A stripe of whose files' lengths no check says which is right is left, and named by each command."""
     store = place / "undecided"
@@ -2012,6 +2040,17 @@ def test_length_that_digests_show(place, choose):
         hold("s.y1: isn't replaced: no check covers" in said, said)
         left = {**files, "s.y1": odd["s.y1"]}
         hold(there(store).items() >= left.items(), "the lost fragments aren't what they were, or another was replaced")
+
+    # Of the other code as few: the one digest may be of any fragment.
+    for listed in [name for name in stripe("12-2-2", 1, choose) if name[0] != "p"]:
+        shutil.rmtree(store)
+        store.mkdir()
+        files = {f"s.{name}": data for name, data in stripe("12-2-2", 200, choose).items()}
+        for name, data in files.items():
+            (store / name).write_bytes(data if name[2] != "p" else data[:100])
+        (store / "SHA256SUMS").write_text(f"{digest(files[f's.{listed}'])}  s.{listed}\n")
+        said = run("scrub", store, status=1)
+        hold("s.p0: has another length" in said and "different lengths" not in said, f"the digest of {listed} shows no length: {said}")
 
     # All but two were cut: the others belong together, and aren't what is listed.
     shutil.rmtree(store)
