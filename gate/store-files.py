@@ -26,6 +26,7 @@ import time
 # No compiled copy of the modules is left beside them.
 sys.dont_write_bytecode = True
 ROOT = pathlib.Path(__file__).resolve().parent.parent
+import refusals  # noqa: E402
 from faults import Calls  # noqa: E402
 
 PROGRAM = ROOT / "crates/rebuild_store/out/rebuild_store"
@@ -279,6 +280,23 @@ def test_read_to_a_file_once(place, choose):
     hold(not [*place.glob(".rebuild-store-*")], "a temporary file was left")
 
 
+def test_fragment_that_fails_beside_damaged_ones(place, choose):
+    """Beside two fragments that differ from their digests one that can't be read is left out, too."""
+    store, data, calls, out = place / "store", choose.randbytes(6_000), Calls(place), place / "out"
+    run("encode", store, source(place, "a", data), status=0)
+    for name in ("a.x0", "a.x1"):
+        (store / name).write_bytes(bytes(1_000))
+    command, tried = [PROGRAM, "read", store, "a", "-o", out], False
+    for number, kind in enumerate(calls.run(command).kinds, 1):
+        out.unlink(missing_ok=True)
+        ended = calls.run(command, number, 5, rest="path") if kind == "read" else None
+        if ended and ended.paths == (str(store / "a.y0"),):
+            hold(ended.status == 0 and out.read_bytes() == data, f"call {number}: {ended.text()}")
+            tried = True
+            break
+    hold(tried, "the fragment isn't read")
+
+
 def test_read_to_a_file_killed(place, choose):
     """A run that is killed while it reads to a file, or whose calls fail, leaves it as it was or whole."""
     store, data, calls = place / "store", choose.randbytes(3_000), Calls(place)
@@ -467,6 +485,20 @@ def test_replacement_that_lost_a_fragment(place, choose):
     lost = store / f"a{STAGED}.y1"
     whole = lost.read_bytes()
     lost.unlink()
+    # Where it can't be seen whether it is lost, that is said.
+    calls, again, tried = Calls(place), place / "again", 0
+    command = [PROGRAM, "encode", "--replace", again, source(place, "a", new)]
+    shutil.copytree(store, again)
+    for number, kind in enumerate(calls.run(command).kinds, 1):
+        if kind == "look":
+            shutil.rmtree(again)
+            shutil.copytree(store, again)
+            ended = calls.run(command, number, 5)
+            if ended.paths == (str(again / lost.name),):
+                tried += 1
+                hold(ended.status == 3 and "Input/output error" in ended.err, f"call {number}: {ended.text()}")
+                hold(run("read", again, "a", status=0)[0] in (old, new), f"call {number}: neither file can be read")
+    hold(tried > 1, f"it is looked for {tried} times")
     # The same name again ends what was begun, and then has other bytes.
     _, err = run("encode", store, source(place, "a", old), status=1)
     hold("--replace replaces the file" in err and not (store / "a.y1").exists(), f"an old fragment is beside new ones: {err}")
@@ -535,6 +567,29 @@ def test_replacement_by_one_description(place, choose):
         shutil.rmtree(store)
 
 
+def test_replacement_without_memory(place, choose):
+    """A run that is refused memory while it ends what was begun throws no fragment away, also where one description alone says that all
+    are there."""
+    store, old, _ = begun_replacement(place, choose)
+    (store / f"a{STAGED}.file.copy").unlink()
+    fragments = {path.name: path.read_bytes() for path in store.glob(f"a{STAGED}.[xyp]?")}
+    library, file = refusals.Library(place), source(place, "a", old)
+
+    def one(number):
+        again = place / f"again-{number}"
+        shutil.copytree(store, again)
+        ran = library.run([str(it) for it in (PROGRAM, "encode", again, file)], refusal=refusals.Refusal(allocation=number))
+        left = there(again)
+        shutil.rmtree(again)
+        lost = [name for name, data in fragments.items() if data not in (left.get(name), left.get(name.replace(STAGED, "")))]
+        hold(not lost, f"allocation {number}: {lost} are gone: {ran.text()}")
+        return ran
+
+    with concurrent.futures.ThreadPoolExecutor(os.cpu_count()) as pool:
+        ended = [*pool.map(one, range(1, one(0).allocations + 1))]
+    hold({4} <= {ran.status for ran in ended}, f"runs ended with {({ran.status for ran in ended})}")
+
+
 def test_replacement_that_is_taken_out(place, choose):
     """The folders that a file was to be replaced in go with it."""
     names = ["--names", "{stripe}/{place}"]
@@ -555,6 +610,14 @@ def test_replacement_through_a_link(place, choose):
     run("encode", "--follow-links", *DISKS, store, place / "a", status=0)
     hold(run("read", "--follow-links", *DISKS, store, "a", status=0)[0] == new, "not the new file")
     hold(set(there(outside)) == {"a", "a.file"}, f"left {sorted(there(outside))}")
+    # Nor is an empty folder taken away there that has the name of one in which a file is replaced.
+    store, outside, names = place / "folders", place / "outside-folders", ["--names", "disk{shard}/{stripe}/f"]
+    run("encode", "--make-folders", *names, store, place / "a", status=0)
+    (store / "disk3").rename(outside)
+    (store / "disk3").symlink_to(outside)
+    (outside / f"a{STAGED}").mkdir()
+    run("encode", "--replace", *names, store, place / "a", status=3)
+    hold((outside / f"a{STAGED}").is_dir(), "a folder was taken away through a link")
 
 
 def test_replacement_that_cannot_be_begun(place, choose):
