@@ -1816,6 +1816,25 @@ def test_counters_of_a_run_without_memory(place, choose):
     hold(4 in ends, f"runs ended with {ends}")
 
 
+def test_report_of_a_run_without_memory(place, choose):
+    """A report that is written by a run that is refused memory at its end has each row, or isn't there."""
+    store, report = place / "starved-rows", place / "starved-report"
+    lay(store, choose)
+    (store / "s.x1").write_bytes(b"short")
+    library = refusals.Library(place)
+    words = [str(it) for it in (PROGRAM, "scrub", "--workers", 1, "--report", report, store)]
+    many = library.run(words).allocations
+    whole, ends = report.read_bytes(), set()
+    hold(b"\ns,x1,left," in whole, f"the report is {whole}")
+    for number in range(max(many - 80, 1), many + 1):
+        report.unlink(missing_ok=True)
+        ran = library.run(words, refusal=refusals.Refusal(allocation=number))
+        hold(not report.exists() or report.read_bytes() == whole, f"allocation {number}: the report lacks rows: {ran.text()}")
+        hold(ran.status == 4 or report.exists(), f"allocation {number}: no report: {ran.text()}")
+        ends.add(ran.status)
+    hold(4 in ends, f"runs ended with {ends}")
+
+
 def test_rows_that_nobody_reads_yet(place, choose):
     """While standard output takes no more one thread waits for it, the others go on, and no row is lost."""
     store, names = place / "unread", [f"a{number:03}" for number in range(120)]
@@ -1970,6 +1989,30 @@ def test_source_that_changes_while_it_is_digested(place, choose):
             source.write_bytes(data)
             tried += 1
     hold(tried > 0, "it isn't read")
+
+
+def test_files_that_stay_of_a_source_that_changes(place, choose):
+    """Where what was made of a file that changed while it was encoded can't be taken away, that is said, with the status of a device."""
+    calls, store, source, tried = Calls(place), place / "staying", place / "staying-source", 0
+    command = [PROGRAM, "encode", store, source]
+    source.write_bytes(choose.randbytes(1_200_000))
+    kinds = calls.run(command).kinds
+    for number in range(kinds.index("create") + 1, kinds.index("link") + 1):
+        if kinds[number - 1] == "read":
+            shutil.rmtree(store, ignore_errors=True)
+            with waiting(calls, place, command, number) as go_on:
+                # What works beside the call that waits comes to its end.
+                time.sleep(0.1)
+                made = [*store.glob(".rebuild-store-*")]
+                if len(made) == 10 and all(path.stat().st_size == 200_000 for path in made):
+                    for path in made:
+                        path.unlink()
+                        path.mkdir()
+                    source.write_bytes(choose.randbytes(1_200_000))
+                    status, said = go_on()
+                    hold(status == 3 and f"{store}: Is a directory\n" in said, f"call {number}: status {status}: {said}")
+                    tried += 1
+    hold(tried > 0, "its fragments aren't made")
 
 
 def test_lengths_that_nothing_decides(place, choose):
