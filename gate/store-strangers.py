@@ -1991,6 +1991,26 @@ def test_source_that_changes_while_it_is_digested(place, choose):
     hold(tried > 0, "it isn't read")
 
 
+def test_source_that_gets_another_length(place, choose):
+    """A file that gets another length before it is opened is encoded as it then is, or refused as changed."""
+    calls, store, source, refused = Calls(place), place / "longer", place / "longer-source", 0
+    command = [PROGRAM, "encode", store, source]
+    source.write_bytes(choose.randbytes(6_000))
+    for number, kind in enumerate(calls.run(command).kinds, 1):
+        shutil.rmtree(store, ignore_errors=True)
+        if kind in ("look", "open") and calls.run(command, number, errno.EIO).paths == (str(source),):
+            for length in (5_000, 7_000):
+                shutil.rmtree(store, ignore_errors=True)
+                with waiting(calls, place, command, number) as go_on:
+                    source.write_bytes(choose.randbytes(length))
+                    status, said = go_on()
+                is_refused = status == 1 and f"{source}: changed while it was read\n" in said
+                hold(status == 0 or is_refused, f"call {number}, {length} bytes: status {status}: {said}")
+                source.write_bytes(choose.randbytes(6_000))
+                refused += is_refused
+    hold(refused > 0, "it is never refused")
+
+
 def test_files_that_stay_of_a_source_that_changes(place, choose):
     """Where what was made of a file that changed while it was encoded can't be taken away, that is said, with the status of a device."""
     calls, store, source, tried = Calls(place), place / "staying", place / "staying-source", 0

@@ -79,7 +79,12 @@ fn device_words(alloc: Global, path: &str, error: String) -> FileFault {
 
 /// What the system refused of the file at a path that is encoded, or that it was changed meanwhile.
 pub fn source_fault(alloc: Global, path: &str, error: io::Error) -> FileFault {
-    if error.kind() != ErrorKind::ResourceBusy {
+    // It has another time of change, or fewer bytes or more than it had.
+    let is_changed = matches!(
+        error.kind(),
+        ErrorKind::ResourceBusy | ErrorKind::UnexpectedEof
+    );
+    if !is_changed {
         return device(alloc, path, error);
     }
     match format!(in alloc; "{path}: changed while it was read") {
