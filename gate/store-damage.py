@@ -21,6 +21,7 @@ sys.dont_write_bytecode = True
 ROOT = pathlib.Path(__file__).resolve().parent.parent
 sys.path.append(str(ROOT / "tools"))
 import faults  # noqa: E402
+import found  # noqa: E402
 from reference import CODES, product  # noqa: E402
 from store import combined, stripe  # noqa: E402
 
@@ -148,7 +149,7 @@ def repair(folder, code, report, *options):
 def judge(folder, trials, rows):
     """Holds what a repair left: each fragment is as it was or one of the right ones, or a row says that it is unchecked, and it was not
     replaced if it was right."""
-    files = faults.files_of(folder)
+    files = found.Found(folder).files
     for trial in trials:
         for place, right in trial.right.items():
             name = f"{trial.name}.{place}"
