@@ -547,6 +547,89 @@ def test_replacement_beside_disks_that_fail(place, choose):
     hold(run("read", "--follow-links", *DISKS, store, "a", status=0)[0] == old, "not the old file is read beside disks that fail")
 
 
+def test_disk_that_comes_back(place, choose):
+    """A disk that comes back with what it had of a replacement takes nothing of the file from the others."""
+    store, old, new = begun_replacement(place, choose, *DISKS)
+    (store / "disk5").rename(place / "away")
+    (store / "disk5").mkdir()
+    run("encode", "--replace", *DISKS, store, place / "a", status=0)
+    shutil.rmtree(store / "disk5")
+    (place / "away").rename(store / "disk5")
+    hold(run("read", *DISKS, store, "a", status=0)[0] == new, "not the new file is read")
+    before = {path: path.read_bytes() for path in store.rglob("*") if path.is_file()}
+    for data in (old, new, b"another"):
+        _, err = run("encode", *DISKS, store, source(place, "a", data), status=1)
+        hold("a.rebuild-store-new: too little of it is there to replace a file" in err, err)
+        hold({path: path.read_bytes() for path in store.rglob("*") if path.is_file()} == before, "something was changed")
+    hold(run("read", *DISKS, store, "a", status=0)[0] == new, "not the new file is read after that")
+    run("remove", *CODED, store, f"a{STAGED}", status=0)
+    run("encode", "--replace", *DISKS, store, source(place, "a", old), status=0)
+    hold(run("read", *DISKS, store, "a", status=0)[0] == old, "it can't be replaced then")
+
+
+def test_replacement_of_too_few(place, choose):
+    """What was to replace a file replaces it if it can be read, and else stays, with the old file, until its disks are back."""
+    for lost, is_whole in ((("disk0", "disk4", "disk9"), True), (("disk0", "disk1", "disk2", "disk3", "disk6"), False)):
+        store, old, new = begun_replacement(place, choose, *DISKS)
+        for one in lost:
+            (store / one).rename(place / one)
+            (store / one).mkdir()
+        ended = ran("encode", *DISKS, store, source(place, "a", new))
+        hold(ended.returncode == (0 if is_whole else 1), f"{lost}: {ended.stderr.decode()}")
+        if not is_whole:
+            for one in lost:
+                (store / one).rmdir()
+                (place / one).rename(store / one)
+            run("encode", *DISKS, store, place / "a", status=0)
+        hold(run("read", *DISKS, store, "a", status=0)[0] == new, f"{lost}: not the new file is read")
+        hold(not [*store.rglob(f"*{STAGED}*")], f"{lost}: something begun is left")
+        shutil.rmtree(store)
+        for one in lost:
+            shutil.rmtree(place / one, ignore_errors=True)
+
+
+def test_replacement_that_cannot_be_looked_at(place, choose):
+    """What was to replace a file isn't taken for not begun where it can't be looked at."""
+    names = ["--names", "{stripe}/{place}"]
+    store, old, new = begun_replacement(place, choose, *names)
+    staged = store / f"a{STAGED}"
+    staged.rename(place / "away")
+    staged.symlink_to(staged.name)
+    run("encode", *names, store, source(place, "a", old), status=3)
+    staged.unlink()
+    (place / "away").rename(staged)
+    hold(run("read", *names, store, "a", status=0)[0] == new, "not the new file is read")
+
+
+def test_replace_keeps_what_is_the_same(place, choose):
+    """What is there with the same bytes is kept, with its rights, also where nothing describes it and its name is long; what is damaged is
+    replaced, and what is no file stays and refuses the file."""
+    for name in ("a", "n" * 240):
+        store, file = place / f"store-{len(name)}", source(place, name, choose.randbytes(900))
+        run("encode", "--replace", store, file, status=0)
+        for one in PLACES:
+            (store / f"{name}.{one}").chmod(0o600)
+        for ending in (".file", ".file.copy"):
+            (store / f"{name}{ending}").unlink()
+        run("encode", "--replace", store, file, status=0)
+        rights = {stat.S_IMODE((store / f"{name}.{one}").stat().st_mode) for one in PLACES}
+        hold(rights == {0o600}, f"other rights: {rights}")
+    store, fragment = place / "store-1", place / "store-1/a.x0"
+    whole = fragment.read_bytes()
+    for described in (True, False):
+        fragment.write_bytes(bytes(len(whole)))
+        run("encode", store, place / "a", status=1)
+        if not described:
+            for ending in (".file", ".file.copy"):
+                (store / f"a{ending}").unlink()
+        run("encode", "--replace", store, place / "a", status=0)
+        hold(fragment.read_bytes() == whole, f"{described}: a damaged fragment isn't replaced")
+    fragment.unlink()
+    fragment.symlink_to(place / "a")
+    _, err = run("encode", "--replace", store, source(place, "a", choose.randbytes(901)), status=1)
+    hold("a.x0: is no regular file, and isn't replaced" in err and fragment.is_symlink(), f"what is no file was replaced: {err}")
+
+
 def test_replacement_by_one_description(place, choose):
     """Any copy of the new file's description says that all of it is there."""
     for odd in (None, b"odd"):
@@ -1257,7 +1340,8 @@ def test_rights_of_descriptions_from_digests(place, choose):
         return rights[0]
 
     for owner in owners:
-        for modes, mode in (([0o644], 0o644), ([0o640, 0o644], 0o640), ([0o644, 0o664, 0o604], 0o604), ([0o600], 0o600), ([0o755], 0o644)):
+        for modes, mode in (([0o644], 0o644), ([0o640, 0o644], 0o640), ([0o644, 0o664, 0o604], 0o604), ([0o600], 0o600), ([0o755], 0o644),
+                            ([0o644, 0o440], 0o640)):
             hold(made(modes, [owner]) == (mode, owner), f"{modes} {owner}: {made(modes, [owner])}")
     if len(owners) > 1:
         hold(made([0o644], owners) == (0o600, owners[0]), "others may read it, or it was given away")

@@ -8,6 +8,7 @@ It runs what was built last: the program, and a test of store_tests that shows w
 rebuild-store(5), flock(2) and proc(5), and digests from Python's hashlib."""
 
 import hashlib
+import itertools
 import pathlib
 import subprocess
 import sys
@@ -385,8 +386,9 @@ LIKE_DESCRIPTIONS = {
 def test_fragments_like_descriptions(place):
     """No file is encoded a fragment of which would have the name of a description, and each other file can be made whole again."""
     source = place / "source"
-    source.write_bytes(bytes(range(256)) * 3)
-    for number, (pattern, (refused, others)) in enumerate(LIKE_DESCRIPTIONS.items()):
+    # Fragments that are longer than a description, and such as might be one.
+    for number, (many, (pattern, (refused, others))) in enumerate(itertools.product((3, 1), LIKE_DESCRIPTIONS.items())):
+        source.write_bytes(bytes(range(256)) * many)
         store = place / str(number)
         words = ["--code", "6-2-2", "--names", pattern]
         store.mkdir()

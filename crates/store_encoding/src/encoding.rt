@@ -10,6 +10,7 @@ pub(crate) mod stripe_files;
 pub(crate) mod subfolders;
 pub(crate) mod sums;
 
+use crate::refusing::refused;
 use crate::removing::has_any;
 use fragments::{Encoded, make_encoded, source_digest};
 use lrc_code::{Code, Place};
@@ -19,11 +20,11 @@ use replacing::{finish_replacing, replace};
 use source::{is_changed, no_name, regular, stripe_name};
 use std::fs::Metadata;
 use std::thread::Threads;
-use store_faults::{FileFault, fragment_name, source_fault};
+use store_faults::{FileFault, device, fragment_name, source_fault};
 use store_files::{Target, is_staged, is_there};
 use store_folder::{
-    Described, Digest, KEPT, Links, SystemFolder, is_description_name, open_fragment, path_in,
-    read_description,
+    Described, Digest, KEPT, Links, SystemFolder, is_absent, is_description_name, look_at,
+    open_fragment, path_in, read_description,
 };
 use store_progress::{Progress, refuse_over_limit};
 use store_repair::fragment_length;
@@ -67,31 +68,46 @@ pub fn encode_file<R: Threads + Sync>(
     if is_described(rt, target, name)? {
         given.digest = Some(source_digest(rt, &given)?);
     }
-    if is_replaced(rt, target, name, &given)? {
-        return replace(threads, rt, target, name, &given);
+    match encode_beside(threads, rt, target, name, &given) {
+        Err(fault) if target.replaces && matches!(&fault, FileFault::Refused { .. }) => {
+            drop(fault);
+            refuse_irregular(rt, target, name)?;
+            replace(threads, rt, target, name, &given)
+        }
+        done => done,
     }
-    encode_as(threads, rt, target, name, &given)
 }
 
-/// Whether what is there of a file is to be replaced. What isn't replaced and isn't of the file that is given refuses it.
-fn is_replaced(
+/// Encodes a file beside what is there of it with the same bytes. Other bytes refuse it.
+fn encode_beside<R: Threads + Sync>(
+    threads: &R,
     rt: &HostRuntime,
-    target: &Target<'_>,
+    target: &mut Target<'_>,
     name: &str,
     given: &Given<'_>,
-) -> Result<bool, FileFault> {
-    match refuse_others(rt, target, name, given) {
-        // Nothing describes fragments that are there alone.
-        Ok(()) => Ok(target.replaces && given.digest.is_none() && has_fragments(rt, target, name)?),
-        Err(fault) if target.replaces && matches!(&fault, FileFault::Refused { .. }) => Ok(true),
-        Err(fault) => Err(fault),
-    }
+) -> Result<(), FileFault> {
+    refuse_others(rt, target, name, given)?;
+    encode_as(threads, rt, target, name, given)
 }
 
-/// Whether there is a fragment of a stripe.
-fn has_fragments(rt: &HostRuntime, target: &Target<'_>, name: &str) -> Result<bool, FileFault> {
-    let fragments = target.names(rt.alloc(), name)?;
-    has_any(rt, target, fragments.as_slice())
+/// Refuses to replace a stripe under the name of one of whose fragments there is something else than a file.
+fn refuse_irregular(rt: &HostRuntime, target: &Target<'_>, name: &str) -> Result<(), FileFault> {
+    let alloc = rt.alloc();
+    for fragment in target.names(alloc, name)? {
+        let path = target.path(alloc, fragment.as_str())?;
+        match look_at(rt, path.as_str(), target.links) {
+            Ok(there) if !there.is_file() => {
+                return Err(refused(format!(in alloc;
+                    "{fragment}: is no regular file, and isn't replaced"
+                )));
+            }
+            Err(error) if !is_absent(error.kind()) => {
+                return Err(device(alloc, path.as_str(), error));
+            }
+            _ => {}
+        }
+    }
+    Ok(())
 }
 
 /// Refuses a file that can't be opened to be read, or hasn't so many bytes.

@@ -1,8 +1,8 @@
 //! What the copies of a file's description say.
-use crate::staging::{has_some, is_begun, no_stored};
+use crate::staging::{has_fragment, has_some, no_stored};
 use crate::stored_file::StoredFile;
 use crate::target::Target;
-use lrc_code::{Code, Place};
+use lrc_code::{Code, Place, PlaceSet};
 use std::alloc::Global;
 use std::io::ErrorKind;
 use std::{fs, mem};
@@ -11,6 +11,7 @@ use store_folder::{
     Described, Links, description_names, first_description_name, is_absent, path_in,
     read_description,
 };
+use store_repair::lost_places;
 
 /// What the copies of a file's description say, each once, first what most say.
 pub fn descriptions_of(
@@ -113,9 +114,35 @@ pub fn first_described(
     Ok(None)
 }
 
-/// Whether there is a stripe of a name that is to replace another one, whole, as one of its descriptions says.
+/// Whether there is a stripe of a name that is to replace another one: one of its descriptions, which are made last, and so many fragments
+/// that they give the others. A disk that was away when it replaced the other one has fewer. What can't be looked at counts as not there,
+/// and is said.
 pub fn is_whole(rt: &HostRuntime, file: &StoredFile<'_, '_>) -> Result<bool, FileFault> {
-    Ok(is_begun(rt, file, Code::Wide)? && first_described(rt, file)?.is_some())
+    let Some(described) = first_described(rt, file)? else {
+        return Ok(false);
+    };
+    let code = described.code;
+    let there = fragments_there(rt, file, code)?;
+    let lost = lost_places(rt.alloc(), code, there, code.others(there))?;
+    Ok(lost.several.is_empty())
+}
+
+/// The places of a stripe at which there is something under the name of a fragment.
+fn fragments_there(
+    rt: &HostRuntime,
+    file: &StoredFile<'_, '_>,
+    code: Code,
+) -> Result<PlaceSet, FileFault> {
+    let mut there = PlaceSet::empty();
+    for place in code.places() {
+        match has_fragment(rt, file, code, *place) {
+            Ok(true) => there = there.with(*place),
+            Ok(false) => {}
+            Err(fault) if matches!(&fault, FileFault::OutOfMemory) => return Err(fault),
+            Err(fault) => say_fault(rt, file, Some(fault)),
+        }
+    }
+    Ok(there)
 }
 
 /// The name of the description of a stripe in the store's own folder, which a store that was made before has beside the copies that are

@@ -15,6 +15,6 @@ mod target;
 
 pub use descriptions::{descriptions_of, first_described, is_whole, own_description};
 pub use digesting::{Digested, Unkept, digest_at};
-pub use staging::{has_some, is_begun, is_staged, is_there, no_stored, refuse_linked, staged_name};
+pub use staging::{has_some, is_staged, is_there, no_stored, refuse_linked, staged_name};
 pub use stored_file::{Sought, StoredFile};
 pub use target::Target;

@@ -22,19 +22,6 @@ pub fn is_staged(name: &str) -> bool {
     name.ends_with(STAGED)
 }
 
-/// Whether a stripe of a name that is to replace another one has been begun: whichever of its fragments is there. If none is seen, what
-/// can't be looked at, as on a disk that fails, counts as not there.
-pub fn is_begun(
-    rt: &HostRuntime,
-    file: &StoredFile<'_, '_>,
-    code: Code,
-) -> Result<bool, FileFault> {
-    match has_some(rt, file, code, code.places()) {
-        Err(fault) if !matches!(&fault, FileFault::OutOfMemory) => Ok(false),
-        is_begun => is_begun,
-    }
-}
-
 /// Whether there is anything under the name of a fragment of a stripe at one of some places, whatever can't be looked at of the others.
 pub fn has_some(
     rt: &HostRuntime,
@@ -47,6 +34,7 @@ pub fn has_some(
         match has_fragment(rt, file, code, *place) {
             Ok(true) => return Ok(true),
             Ok(false) => {}
+            Err(fault) if matches!(&fault, FileFault::OutOfMemory) => return Err(fault),
             Err(fault) => refused = Some(fault),
         }
     }
@@ -54,7 +42,7 @@ pub fn has_some(
 }
 
 /// Whether there is anything under the name of a stripe's fragment at a place.
-fn has_fragment(
+pub(crate) fn has_fragment(
     rt: &HostRuntime,
     file: &StoredFile<'_, '_>,
     code: Code,

@@ -3,7 +3,7 @@ use crate::votes::are_stripe;
 use lrc_code::{Code, Place};
 use std::alloc::{AllocError, Global};
 use std::collections::{BTreeMap, BTreeSet};
-use store_names::{Pattern, described_stripe, last_of};
+use store_names::{Pattern, described_stripe, is_description_name, last_of};
 use store_records::MOST_BYTES;
 use stores::{Found, StripeFiles};
 
@@ -58,7 +58,9 @@ impl StoreStripes {
                 let Some(file) = pattern.name_of(alloc, code, name, *place)? else {
                     return Ok(false);
                 };
-                if !self.is_described_by(file.as_str()) {
+                if !is_description_name(alloc, pattern, code, file.as_str())?
+                    || !self.is_described_by(file.as_str())
+                {
                     return Ok(false);
                 }
             }

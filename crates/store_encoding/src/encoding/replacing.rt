@@ -15,6 +15,7 @@ use crate::encoding::subfolders::make_folders;
 use crate::encoding::sums::{forget_digests, write_new_sums};
 use crate::encoding::{Given, encode_as};
 use crate::own_folders::{has_folders, remove_own_folders};
+use crate::refusing::refused;
 use crate::removing::{has_any, remove_names};
 use folders::Folder;
 use std::alloc::{AllocError, Global};
@@ -22,7 +23,8 @@ use std::slice;
 use std::thread::Threads;
 use store_faults::{FileFault, device};
 use store_files::{
-    StoredFile, Target, first_described, is_begun, own_description, refuse_linked, staged_name,
+    StoredFile, Target, first_described, has_some, is_whole, own_description, refuse_linked,
+    staged_name,
 };
 use store_folder::{SystemFolder, first_description_name, give_name};
 
@@ -37,8 +39,7 @@ pub(crate) fn replace<R: Threads + Sync>(
     let staged = staged_name(rt.alloc(), name)?;
     let staged = staged.as_str();
     let had_folders = has_folders(rt, target, staged)?;
-    make_folders(rt, target, staged)?;
-    if let Err(fault) = encode_as(threads, rt, target, staged, given) {
+    if let Err(fault) = encode_staged(threads, rt, target, staged, given) {
         // Takes away what is there of it, as far as that can be done now.
         drop(finish_replacing(rt, target, name));
         if !had_folders {
@@ -47,6 +48,18 @@ pub(crate) fn replace<R: Threads + Sync>(
         return Err(fault);
     }
     finish_replacing(rt, target, name)
+}
+
+/// Encodes a file as a stripe that is to replace another one, of this name, in folders that are made for it.
+fn encode_staged<R: Threads + Sync>(
+    threads: &R,
+    rt: &HostRuntime,
+    target: &mut Target<'_>,
+    staged: &str,
+    given: &Given<'_>,
+) -> Result<(), FileFault> {
+    make_folders(rt, target, staged)?;
+    encode_as(threads, rt, target, staged, given)
 }
 
 /// Ends what a run has begun that was to replace the file of a name: if all of the new file is there it replaces the old one, and otherwise
@@ -74,7 +87,7 @@ fn finish_staged(
         links: target.links,
         progress: None,
     };
-    if is_begun(rt, &file, target.code)? {
+    if has_some(rt, &file, target.code, target.code.places())? {
         replace_files(rt, target, &file, name)?;
         remove_own_folders(rt, target, staged, name)?;
     }
@@ -151,8 +164,19 @@ fn replace_begun(
         return Err(no_name(rt, name));
     }
     let files = &mut SystemFolder::new(rt);
-    let is_whole = first_described(rt, file)?.is_some();
-    end(rt, files, target, begun, replaced, is_whole)
+    let is_described = first_described(rt, file)?.is_some();
+    // A disk that was away when all of this was done elsewhere has its share of it alone.
+    if is_described && !is_whole(rt, file)? {
+        return Err(too_little(rt, file.name));
+    }
+    end(rt, files, target, begun, replaced, is_described)
+}
+
+/// That too little is there of a stripe which is to replace another one.
+fn too_little(rt: &HostRuntime, name: &str) -> FileFault {
+    refused(format!(in rt.alloc();
+        "{name}: too little of it is there to replace a file: bring its disks back, or remove it"
+    ))
 }
 
 /// Gives the files of a stripe the names of another one's, if they are whole, writes the digests, and takes their own names away. At each

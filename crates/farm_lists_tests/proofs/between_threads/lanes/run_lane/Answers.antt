@@ -1,5 +1,5 @@
 use Rattle.std.proofs.Common.{arith, sym, ◌∙◌}
-use Rattle.farm_lists_tests.proofs.between_threads.SmallLanes.{all_ends}
+use Rattle.farm_lists_tests.proofs.SmallLanes.{all_ends}
 use Rattle.farm_lists_tests.proofs.between_threads.lanes.run_lane.Goals as goal
 
 pub settle-settled-requires : goal.settle-settled-requires

@@ -1,6 +1,6 @@
 use Rattle.std.proofs.Common.{List, sym, subst, refl}
 use Rattle.farm_lanes.specs.LaneEnds.{PutView, TakeView, AreAllEnds}
-use Rattle.farm_lists_tests.proofs.between_threads.SmallLanes.{one_and_one}
+use Rattle.farm_lists_tests.proofs.SmallLanes.{one_and_one}
 use Rattle.farm_lists_tests.proofs.between_threads.lanes.settle_pair.Goals as goal
 
 pub settle-settled-requires : goal.settle-settled-requires
