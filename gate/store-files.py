@@ -248,6 +248,47 @@ def test_read_to_a_file(place, choose):
     hold(not [*place.glob(".rebuild-store-*")], "a temporary file was left")
 
 
+def test_read_to_a_path_that_leads_into_the_store(place, choose):
+    """No file is read to a path in a folder below the store's, or whose links lead into one; the folder above it and a pipe are none."""
+    names, store, data = ["--names", "{stripe}/{place}"], place / "store", choose.randbytes(3_000)
+    run("encode", "--make-folders", *names, store, source(place, "a", data), source(place, "b", b"b"), status=0)
+    (store / f"a{STAGED}").mkdir()
+    (store / "b/deep").mkdir()
+    way, link, chain = place / "way", place / "link", place / "chain"
+    way.symlink_to(store / "b")
+    chain.symlink_to(link.name)
+    files = there(store)
+    for inside in ("b/x0", "b/new", "b/deep/new", f"a{STAGED}/x0", "SHA256SUMS", "a/x1"):
+        link.unlink(missing_ok=True)
+        link.symlink_to(f"store/{inside}")
+        for path in (store / inside, link, chain, way / "x0"):
+            _, err = run("read", *names, store, "a", "-o", path, status=2)
+            hold(err == f"rebuild-store: {path}: is in a folder of the store\n" and there(store) == files, f"{path}: {err}")
+    # Nor where it can't be seen where a link leads.
+    link.unlink()
+    link.symlink_to("store/b/x0")
+    calls, command = Calls(place), [PROGRAM, "read", *names, store, "a", "-o", link]
+    for number, kind in enumerate(calls.run(command).kinds, 1):
+        if kind == "look":
+            ended = calls.run(command, number, 5)
+            hold(ended.status in (2, 3) and there(store) == files, f"call {number}: {ended.text()}")
+    run("read", *names, ".", "a", "-o", "../out", status=0, cwd=store)
+    hold((place / "out").read_bytes() == data, "nothing is read to the folder above the store's")
+    hold(run("read", *names, store, "a", "-o", "/dev/stdout", status=0)[0] == data, "nothing is read to a pipe")
+    loop = place / "loop"
+    loop.symlink_to(loop.name)
+    _, err = run("read", *names, store, "a", "-o", loop, status=3)
+    hold(err == f"rebuild-store: {loop}: Too many levels of symbolic links\n", err)
+    # The folder of a disk may be elsewhere.
+    disks, outside, names = place / "disks", place / "outside", ["--follow-links", "--names", "disk{shard}/all/{stripe}"]
+    run("encode", "--make-folders", *names, disks, place / "a", status=0)
+    (disks / "disk3").rename(outside)
+    (disks / "disk3").symlink_to(outside)
+    for inside in ("all/a", "all/new", "new"):
+        _, err = run("read", *names, disks, "a", "-o", outside / inside, status=2)
+        hold("is in a folder of the store" in err and not (outside / "new").exists(), f"{inside}: {err}")
+
+
 def test_read_to_a_file_once(place, choose):
     """What is written to a new file is read once, and another time only where it isn't the file that is described."""
     store, data, calls, out = place / "store", choose.randbytes(3_000_000), Calls(place), place / "out"

@@ -3,6 +3,7 @@ mod choosing;
 pub(crate) mod destination;
 pub(crate) mod fragments;
 pub(crate) mod output;
+mod refusing;
 
 ghost use Rattle.std.specs.Prelude.{◌≡◌, vec_len};
 

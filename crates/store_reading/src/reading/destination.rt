@@ -11,18 +11,18 @@ ghost use Rattle.store_reading.specs.Written.{GivesFile, HasFile, IsRight, PutsF
 use crate::reading::choosing::{set_that_fits, some_that_fit};
 use crate::reading::fragments::{Fragments, survivors_of};
 use crate::reading::output::{changed_meanwhile, write_into};
+use crate::reading::refusing::refuse_in_store;
 use folders::Folder;
-use lrc_code::{Code, PlaceSet};
+use lrc_code::PlaceSet;
 use std::alloc::Global;
 use std::fs::{self, File, Metadata};
 use std::io::{self, ErrorKind};
 use store_faults::{FileFault, device};
 use store_files::{Digested, Sought};
 use store_folder::{
-    Identity, NewFile, Placed, SystemFolder, create_new, create_private, discard_new, folder_of,
-    path_in, place_again, place_new,
+    NewFile, Placed, SystemFolder, create_new, create_private, discard_new, folder_of, place_again,
+    place_new,
 };
-use store_names::stripe_folders;
 use store_progress::{Counted, refuse_over_limit};
 use store_repair::{MendFault, read_file};
 
@@ -154,28 +154,6 @@ fn opened(rt: &HostRuntime, path: &str) -> io::Result<File> {
     let mut options = File::options();
     options.write(true).truncate(true);
     options.open(rt, path)
-}
-
-/// Refuses a path in the store's own folder, which may have its digests, or in one that has fragments of it.
-fn refuse_in_store(rt: &HostRuntime, sought: &Sought<'_, '_>, path: &str) -> Result<(), FileFault> {
-    let alloc = rt.alloc();
-    let Ok(folder) = fs::metadata(rt, folder_of(path)) else {
-        return Ok(());
-    };
-    let file = &sought.file;
-    let mut folders = stripe_folders(alloc, &file.pattern, Code::Wide, file.name)?;
-    folders.push(String::new(alloc))?;
-    for inside in &folders {
-        let of_store = path_in(alloc, file.folder, inside.as_str())?;
-        if let Ok(there) = fs::metadata(rt, of_store.as_str()) {
-            if Identity::of(&there) == Identity::of(&folder) {
-                return Err(FileFault::Usage {
-                    what: format!(in alloc; "{path}: is in a folder of the store")?,
-                });
-            }
-        }
-    }
-    Ok(())
 }
 
 /// The file under a temporary name beside a path, with the owner and the rights of what is there, if the fragments give it: as all of them
