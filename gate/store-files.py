@@ -1065,6 +1065,36 @@ def test_remove_killed(place, choose):
         shutil.rmtree(store)
 
 
+def test_remove_killed_beside_a_replacement(place, choose):
+    """A run that takes out a file which was being replaced, and is killed, leaves the new file or none, and the same command ends it."""
+    calls = Calls(place)
+    for names in ([], DISKS):
+        begun, old, new = begun_replacement(place, choose, *names)
+        words = ["--code", "6-2-2", *names]
+        run("encode", *names, begun, source(place, "b", b"b"), status=0)
+        shutil.copytree(begun, place / "count")
+        kinds = calls.run([PROGRAM, "remove", *words, place / "count", "a"]).kinds
+
+        def one(number):
+            store = place / f"killed-{number}"
+            shutil.copytree(begun, store)
+            killed = calls.run([PROGRAM, "remove", *words, store, "a"], number, "kill")
+            where = f"{names}, killed at call {number}, {kinds[number - 1]}"
+            hold(killed.status == -9, f"{where}: {killed.text()}")
+            read = ran("read", *names, store, "a")
+            hold((read.returncode, read.stdout) in ((0, new), (1, b"")), f"{where}: {read.returncode}, the old file: {read.stdout == old}")
+            again = ran("remove", *words, store, "a")
+            hold(again.returncode == 0 or b"a: is no file of the store" in again.stderr, f"{where}: {again.stderr!r}")
+            left = [it for it in there(store) if it.split("/")[-1][0] == "a"]
+            hold(not left and are_right(store), f"{where}: left {left}")
+            shutil.rmtree(store)
+
+        with concurrent.futures.ThreadPoolExecutor(os.cpu_count()) as pool:
+            [*pool.map(one, range(1, len(kinds) + 1))]
+        shutil.rmtree(begun)
+        shutil.rmtree(place / "count")
+
+
 def test_standard_input(place, choose):
     """Standard input is encoded under the name that is given, and what it was kept in is gone."""
     store, data = place / "store", choose.randbytes(600_000)

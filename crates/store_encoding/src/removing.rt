@@ -1,5 +1,6 @@
 //! Taking files out of a store. The digests go first, so that nothing is expected of the file any more, then its descriptions, then its
-//! fragments: what a run that was killed has left is a file that can still be read, or fragments that the same command removes.
+//! fragments: what a run that was killed has left is a file that can still be read, or fragments that the same command removes. What was to
+//! replace the file goes last.
 ghost use Rattle.std.specs.Prelude.{◌≡◌, ℕ, List, Option};
 ghost use Rattle.store_folder.specs.Written.{Puts};
 ghost use Rattle.store_encoding.specs.Digests.{KeepsDigests};
@@ -12,7 +13,7 @@ use crate::own_folders::remove_own_folders;
 use crate::refusing::refused;
 use crate::taking::take_files;
 use folders::Folder;
-use std::alloc::Global;
+use std::alloc::{AllocError, Global};
 use store_faults::{FileFault, device};
 use store_files::{Target, is_there, no_stored, own_description, refuse_linked, staged_name};
 use store_folder::{SystemFolder, description_names};
@@ -42,63 +43,58 @@ fn remove_files(
     name: &str,
     staged: &str,
 ) -> Result<(), FileFault> {
-    let files = names_of_both(rt, target, name, staged)?;
-    remove_both(rt, target, name, &files)
-}
-
-/// The names of a stripe's files, and of those that were to replace them.
-fn names_of_both(
-    rt: &HostRuntime,
-    target: &Target<'_>,
-    name: &str,
-    staged: &str,
-) -> Result<StripeFiles, FileFault> {
-    let mut names = StripeFiles {
-        fragments: target.names(rt.alloc(), name)?,
-        descriptions: names_of_descriptions(rt, target, name)?,
-    };
-    match add_names(rt, target, staged, &mut names) {
-        Ok(()) => Ok(names),
+    let old = files_of(rt, target, name)?;
+    match files_of(rt, target, staged) {
+        Ok(new) => remove_both(rt, target, name, &old, &new),
         Err(fault) => Err(fault),
     }
 }
 
-/// Adds the names of a stripe's files.
-fn add_names(
-    rt: &HostRuntime,
-    target: &Target<'_>,
-    stripe: &str,
-    names: &mut StripeFiles,
-) -> Result<(), FileFault> {
-    let mut descriptions = names_of_descriptions(rt, target, stripe)?;
-    names.descriptions.append(&mut descriptions)?;
-    let mut fragments = target.names(rt.alloc(), stripe)?;
-    Ok(names.fragments.append(&mut fragments)?)
+/// The names of a stripe's files.
+fn files_of(rt: &HostRuntime, target: &Target<'_>, stripe: &str) -> Result<StripeFiles, FileFault> {
+    let descriptions = names_of_descriptions(rt, target, stripe)?;
+    match target.names(rt.alloc(), stripe) {
+        Ok(fragments) => Ok(StripeFiles {
+            fragments,
+            descriptions,
+        }),
+        Err(AllocError) => Err(FileFault::OutOfMemory),
+    }
 }
 
-/// Takes the files of these names out of a store, and their digests; refuses the file of a name of which none is there.
+/// Takes the files of these names out of a store, and their digests; refuses the file of a name of which none is there. Those of a new file
+/// that was to replace the old one go last: while it can be read it is what is read, and an old one would be again without it.
 fn remove_both(
     rt: &HostRuntime,
     target: &mut Target<'_>,
     name: &str,
-    names: &StripeFiles,
+    old: &StripeFiles,
+    new: &StripeFiles,
 ) -> Result<(), FileFault> {
-    let descriptions = names.descriptions.as_slice();
-    let fragments = names.fragments.as_slice();
-    refuse_linked(rt, target, descriptions)?;
-    refuse_linked(rt, target, fragments)?;
-    if !has_any(rt, target, descriptions)? && !has_any(rt, target, fragments)? {
+    let lists = [
+        old.descriptions.as_slice(),
+        old.fragments.as_slice(),
+        new.descriptions.as_slice(),
+        new.fragments.as_slice(),
+    ];
+    let mut is_stored = false;
+    for names in lists {
+        refuse_linked(rt, target, names)?;
+    }
+    for names in lists {
+        is_stored = is_stored || has_any(rt, target, names)?;
+    }
+    if !is_stored {
         return Err(no_stored(rt.alloc(), name, target.folder)?);
     }
-    forget_digests(target, descriptions);
-    forget_digests(target, fragments);
-    take_out(
-        rt,
-        &mut SystemFolder::new(rt),
-        target,
-        descriptions,
-        fragments,
-    )
+    for names in lists {
+        forget_digests(target, names);
+    }
+    let files = &mut SystemFolder::new(rt);
+    take_out(rt, files, target, lists[0], lists[1])?;
+    // The digests are written, and only once.
+    target.is_changed = false;
+    take_out(rt, files, target, lists[2], lists[3])
 }
 
 /// The names of a stripe's descriptions that go with it.
