@@ -1095,6 +1095,24 @@ def test_remove_killed_beside_a_replacement(place, choose):
         shutil.rmtree(place / "count")
 
 
+def test_remove_by_the_name_of_a_description(place, choose):
+    """What has the name of a file's descriptions is no file that could be taken out."""
+    store = place / "store"
+    run("encode", "--make-folders", *DISKS, store, source(place, "a", choose.randbytes(500)), status=0)
+    files, calls = there(store), Calls(place)
+    command = [PROGRAM, "remove", *CODED, store, "a.file"]
+    (store / "disk0/a.file").write_bytes(b"odd")
+    files["disk0/a.file"] = b"odd"
+    _, err = run(*command[1:], status=1)
+    hold("a.file: is no file of the store" in err and there(store) == files, f"{err}: {sorted(there(store))}")
+    for number, kind in enumerate(calls.run(command).kinds, 1):
+        if kind in ("look", "open", "read"):
+            ended = calls.run(command, number, 5)
+            hold(ended.status in (1, 3) and there(store) == files, f"call {number}, {kind}: {ended.text()}")
+    run("remove", *CODED, store, "a", status=0)
+    hold(set(there(store)) == {"SHA256SUMS"}, sorted(there(store)))
+
+
 def test_standard_input(place, choose):
     """Standard input is encoded under the name that is given, and what it was kept in is gone."""
     store, data = place / "store", choose.randbytes(600_000)

@@ -14,9 +14,12 @@ use crate::refusing::refused;
 use crate::taking::take_files;
 use folders::Folder;
 use std::alloc::{AllocError, Global};
+use std::io::ErrorKind;
 use store_faults::{FileFault, device};
 use store_files::{Target, is_there, no_stored, own_description, refuse_linked, staged_name};
-use store_folder::{SystemFolder, description_names};
+use store_folder::{
+    SystemFolder, description_names, is_absent, is_description_name, read_description,
+};
 use store_repair::NameFault;
 
 /// Takes the file of a name out of a store, with what a run has left that was to replace it, and with the folders that it had alone. What
@@ -27,13 +30,39 @@ pub fn remove_stored(
     name: &str,
 ) -> Result<(), FileFault> {
     let alloc = rt.alloc();
-    if !target.has_names(alloc, name)? {
+    if !target.has_names(alloc, name)? || has_description(rt, target, name)? {
         return Err(no_stored(alloc, name, target.folder)?);
     }
     let staged = staged_name(alloc, name)?;
     remove_files(rt, target, name, staged.as_str())?;
     remove_own_folders(rt, target, staged.as_str(), name)?;
     Ok(remove_own_folders(rt, target, name, staged.as_str())?)
+}
+
+/// Whether a description of another file has the name of one of a stripe's fragments, as `disk3/a.file` is of a file `a`.
+fn has_description(rt: &HostRuntime, target: &Target<'_>, name: &str) -> Result<bool, FileFault> {
+    let alloc = rt.alloc();
+    for fragment in target.names(alloc, name)? {
+        let fragment = fragment.as_str();
+        if is_description_name(alloc, &target.pattern, target.code, fragment)?
+            && is_description(rt, target, fragment)?
+        {
+            return Ok(true);
+        }
+    }
+    Ok(false)
+}
+
+/// Whether a description is under a name.
+fn is_description(rt: &HostRuntime, target: &Target<'_>, name: &str) -> Result<bool, FileFault> {
+    let path = target.path(rt.alloc(), name)?;
+    match read_description(rt, path.as_str(), target.links) {
+        Ok(said) => Ok(said.is_some()),
+        Err(error) if is_absent(error.kind()) || error.kind() == ErrorKind::InvalidInput => {
+            Ok(false)
+        }
+        Err(error) => Err(device(rt.alloc(), path.as_str(), error)),
+    }
 }
 
 /// Takes a stripe's files out of a store, and those that were to replace them.
