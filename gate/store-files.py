@@ -611,6 +611,33 @@ def test_disk_that_comes_back(place, choose):
     hold(run("read", *DISKS, store, "a", status=0)[0] == old, "it can't be replaced then")
 
 
+def test_disks_that_come_back_with_an_old_file(place, choose):
+    """Of a file that was replaced by one as long while disks were away, that one is read if the others have enough of it."""
+    old, new = choose.randbytes(3_000), choose.randbytes(3_000)
+    for away in ((0, 1, 2), (0, 5, 9), (2, 4, 6)):
+        store, out = place / f"store-{sum(away)}", place / "out"
+        run("encode", "--make-folders", *DISKS, store, source(place, "a", old), status=0)
+        for one in away:
+            (store / f"disk{one}").rename(place / f"disk{one}")
+            (store / f"disk{one}").mkdir()
+        run("encode", "--replace", *DISKS, store, source(place, "a", new), status=0)
+        for one in away:
+            shutil.rmtree(store / f"disk{one}")
+            (place / f"disk{one}").rename(store / f"disk{one}")
+        (store / "SHA256SUMS").unlink()
+        said = "a: read without the fragments beside which another file is described"
+        for words in ([], ["-o", out]):
+            got, err = run("read", *DISKS, store, "a", *words, status=0)
+            hold(new == (out.read_bytes() if words else got) and said in err, f"without {away}: {err}")
+        hold(said in run("verify", *DISKS, store, "a", status=0)[1], f"{away}: not verified so")
+        # Also where of one of the others no description is left, and one is damaged.
+        (store / "disk3/a.file").unlink()
+        hold(run("read", *DISKS, store, "a", status=0)[0] == new, f"without {away}: not without a description")
+    (store / "disk0/a").write_bytes(bytes(500))
+    _, err = run("read", *DISKS, store, "a", "-o", out, status=0)
+    hold(out.read_bytes() == new and said in err and "a fragment is damaged: read without x0" in err, err)
+
+
 def test_replacement_of_too_few(place, choose):
     """What was to replace a file replaces it if it can be read, and else stays, with the old file, until its disks are back."""
     for lost, is_whole in ((("disk0", "disk4", "disk9"), True), (("disk0", "disk1", "disk2", "disk3", "disk6"), False)):

@@ -3,9 +3,13 @@ ghost use Rattle.std.specs.Prelude.{◌≡◌, vec_len};
 
 use crate::reading::fragments::{Fragments, gives_file};
 use lrc_code::{Place, PlaceSet};
+use std::io::ErrorKind;
 use store_faults::FileFault;
-use store_files::Sought;
-use store_folder::{SUMS_NAME, digests_of, path_in, read_sums};
+use store_files::{Sought, StoredFile};
+use store_folder::{
+    Described, SUMS_NAME, description_names, digests_of, path_in, read_description, read_sums,
+};
+use store_names::folder_in;
 use store_repair::without;
 
 /// A set of fragments that gives the file: all, or some of them.
@@ -23,7 +27,8 @@ pub(crate) fn set_that_fits(
     some_that_fit(rt, sought, fragments)
 }
 
-/// A set of fragments that gives the file where all don't: those that have the digests of the store's sums, or all but one or two.
+/// A set of fragments that gives the file where all don't: those that have the digests of the store's sums, those beside which the file's
+/// description is, or no other one, or all but one or two.
 pub(crate) fn some_that_fit(
     rt: &HostRuntime,
     sought: &Sought<'_, '_>,
@@ -43,24 +48,127 @@ pub(crate) fn some_that_fit(
         );
         return Ok(Some(listed));
     }
-    match without_one(rt, sought, fragments)? {
+    match with_description(rt, sought, fragments)? {
         Some(set) => Ok(Some(set)),
-        None => without_two(rt, sought, fragments),
+        None => without_some(rt, sought, fragments, all),
     }
 }
 
-/// All fragments but one, if they give the file.
-fn without_one(
+/// The fragments beside which the file's description is, or no other one, if they give the file, also without one or two. A disk that was
+/// away while the file was replaced brings back an old fragment beside the old description.
+fn with_description(
     rt: &HostRuntime,
     sought: &Sought<'_, '_>,
     fragments: &Fragments,
 ) -> Result<Option<PlaceSet>, FileFault>
     requires { vec_len fragments.now.opened ≡ 16 }
 {
+    let all = fragments.set;
+    let (described, unopposed) = by_descriptions(rt, sought, fragments)?;
+    for set in [described, unopposed] {
+        if set.len() < all.len() && gives_file(rt, sought, fragments, set)? {
+            say_described(rt, sought);
+            return Ok(Some(set));
+        }
+    }
+    if unopposed.len() == all.len() {
+        return Ok(None);
+    }
+    let set = without_some(rt, sought, fragments, unopposed)?;
+    if set.is_some() {
+        say_described(rt, sought);
+    }
+    Ok(set)
+}
+
+/// Says that fragments were left out for the descriptions beside them.
+fn say_described(rt: &HostRuntime, sought: &Sought<'_, '_>) {
+    let name = sought.file.name;
+    sought.file.say(
+        rt,
+        format!(in rt.alloc();
+            "rebuild-store: {name}: read without the fragments beside which another file is described"
+        ),
+    );
+}
+
+/// The fragments in whose folders the file's description is, and these with those in whose folders none can be read.
+fn by_descriptions(
+    rt: &HostRuntime,
+    sought: &Sought<'_, '_>,
+    fragments: &Fragments,
+) -> Result<(PlaceSet, PlaceSet), FileFault> {
+    let alloc = rt.alloc();
+    let StoredFile { pattern, name, .. } = sought.file;
+    let copies = description_names(alloc, &pattern, sought.described.code, name)?;
+    let mut described = PlaceSet::empty();
+    let mut unopposed = PlaceSet::empty();
+    for place in &Place::ALL {
+        if !fragments.set.has(*place) {
+            continue;
+        }
+        let fragment = sought.name_of(alloc, *place)?;
+        match said_in(rt, sought, copies.as_slice(), folder_in(fragment.as_str()))? {
+            Some(said) if said == sought.described => {
+                described = described.with(*place);
+                unopposed = unopposed.with(*place);
+            }
+            Some(_) => {}
+            None => unopposed = unopposed.with(*place),
+        }
+    }
+    Ok((described, unopposed))
+}
+
+/// What the first of some copies of the description says that is in a folder of the store; none where it can't be read.
+fn said_in(
+    rt: &HostRuntime,
+    sought: &Sought<'_, '_>,
+    copies: &[String],
+    folder: &str,
+) -> Result<Option<Described>, FileFault> {
+    for copy in copies {
+        if folder_in(copy.as_str()) != folder {
+            continue;
+        }
+        let path = path_in(rt.alloc(), sought.file.folder, copy.as_str())?;
+        return match read_description(rt, path.as_str(), sought.file.links) {
+            Ok(said) => Ok(said),
+            Err(error) if error.kind() == ErrorKind::OutOfMemory => Err(FileFault::OutOfMemory),
+            Err(_) => Ok(None),
+        };
+    }
+    Ok(None)
+}
+
+/// Some fragments but one or two, if they give the file.
+fn without_some(
+    rt: &HostRuntime,
+    sought: &Sought<'_, '_>,
+    fragments: &Fragments,
+    some: PlaceSet,
+) -> Result<Option<PlaceSet>, FileFault>
+    requires { vec_len fragments.now.opened ≡ 16 }
+{
+    match without_one(rt, sought, fragments, some)? {
+        Some(set) => Ok(Some(set)),
+        None => without_two(rt, sought, fragments, some),
+    }
+}
+
+/// Some fragments but one, if they give the file.
+fn without_one(
+    rt: &HostRuntime,
+    sought: &Sought<'_, '_>,
+    fragments: &Fragments,
+    some: PlaceSet,
+) -> Result<Option<PlaceSet>, FileFault>
+    requires { vec_len fragments.now.opened ≡ 16 }
+{
     let name = sought.file.name;
     for first in &Place::ALL {
-        let set = without(sought.described.code, fragments.set, *first);
-        if fragments.set.has(*first) && gives_file(rt, sought, fragments, set)? {
+        let set = without(sought.described.code, some, *first);
+        if some.has(*first) && gives_file(rt, sought, fragments, set)? {
             let first = first.name();
             sought.file.say(
                 rt,
@@ -74,22 +182,22 @@ fn without_one(
     Ok(None)
 }
 
-/// All fragments but two, if they give the file.
+/// Some fragments but two, if they give the file.
 fn without_two(
     rt: &HostRuntime,
     sought: &Sought<'_, '_>,
     fragments: &Fragments,
+    some: PlaceSet,
 ) -> Result<Option<PlaceSet>, FileFault>
     requires { vec_len fragments.now.opened ≡ 16 }
 {
     let code = sought.described.code;
-    let all = fragments.set;
     let name = sought.file.name;
     for first in &Place::ALL {
         for second in &Place::ALL {
-            let set = without(code, without(code, all, *first), *second);
-            if all.has(*first)
-                && all.has(*second)
+            let set = without(code, without(code, some, *first), *second);
+            if some.has(*first)
+                && some.has(*second)
                 && first.index() < second.index()
                 && gives_file(rt, sought, fragments, set)?
             {
