@@ -192,6 +192,18 @@ def test_verify(place, choose):
     hold(set(there(store)) == set(files), "verify changed what is in the store")
 
 
+def test_verify_beside_a_folder_that_fails(place, choose):
+    """Where a folder can't be listed, files may be missing from those that were verified: it is named, with a status that says so."""
+    store = place / "store"
+    run("encode", "--make-folders", *DISKS, store, source(place, "a", choose.randbytes(500)), status=0)
+    shutil.rmtree(store / "disk3")
+    run("verify", *DISKS, store, status=0)
+    (store / "disk3").symlink_to("disk3")
+    out, err = run("verify", "--follow-links", *DISKS, store, status=3)
+    hold("disk3: Too many levels of symbolic links: what should be in it counts as lost" in err, err)
+    hold(out == b"verified 1 file; not as described: 0\n", out)
+
+
 def test_read_to_a_file(place, choose):
     """A file that is read to has its name when it is whole; what is there keeps its rights, a FIFO and a link stay."""
     store, data = place / "store", choose.randbytes(100_001)

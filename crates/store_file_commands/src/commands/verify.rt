@@ -11,8 +11,8 @@ use store_reports::verified;
 
 /// Holds files to their digests, says which of them don't have these, and gives the exit status.
 pub fn verify(rt: &HostRuntime, options: &VerifyOptions<'_>) -> Result<u8, FileFault> {
-    let names = names_of(rt, options)?;
-    let done = verify_each(rt, options, names.as_slice())?;
+    let Named { names, are_all } = names_of(rt, options)?;
+    let done = verify_each(rt, options, names.as_slice(), are_all)?;
     if !options.quiet {
         let left = done.left_of(names.len());
         write_line(rt, verified(rt.alloc(), done.done, left))?;
@@ -20,11 +20,20 @@ pub fn verify(rt: &HostRuntime, options: &VerifyOptions<'_>) -> Result<u8, FileF
     Ok(done.status)
 }
 
-/// Holds the files of these names to their digests, one after the other.
+/// The names of the files that are held to their digests.
+#[derive(Drop)]
+struct Named {
+    names: Vec<String>,
+    /// Whether no folder that may have more of them is there and can't be listed.
+    are_all: bool,
+}
+
+/// Holds the files of these names to their digests, one after the other. Whether these are all that were asked for is given.
 fn verify_each(
     rt: &HostRuntime,
     options: &VerifyOptions<'_>,
     names: &[String],
+    are_all: bool,
 ) -> Result<Tally, FileFault> {
     let is_seen = Progress::is_seen(rt, options.quiet);
     let bytes = if is_seen {
@@ -39,7 +48,7 @@ fn verify_each(
         passes: 1,
     };
     let progress = Progress::new(rt, task, !is_seen);
-    let mut done = Tally::new(true);
+    let mut done = Tally::new(are_all);
     for name in names {
         let file = StoredFile {
             folder: options.folder,
@@ -86,9 +95,13 @@ fn length_of(rt: &HostRuntime, file: &StoredFile<'_, '_>) -> Result<u64, FileFau
 }
 
 /// The names that are given, or those of all files of the store.
-fn names_of(rt: &HostRuntime, options: &VerifyOptions<'_>) -> Result<Vec<String>, FileFault> {
+fn names_of(rt: &HostRuntime, options: &VerifyOptions<'_>) -> Result<Named, FileFault> {
     if !options.names.is_empty() {
-        return Ok(given_names(rt.alloc(), options.names.as_slice())?);
+        let names = given_names(rt.alloc(), options.names.as_slice())?;
+        return Ok(Named {
+            names,
+            are_all: true,
+        });
     }
     let opening = Opening::to_read(
         options.folder,
@@ -99,8 +112,12 @@ fn names_of(rt: &HostRuntime, options: &VerifyOptions<'_>) -> Result<Vec<String>
     );
     let store = open_store(rt, &opening)?;
     let names = described_names(rt.alloc(), &store);
+    let are_all = !store.has_unlisted;
     drop(store);
-    Ok(names?)
+    Ok(Named {
+        names: names?,
+        are_all,
+    })
 }
 
 /// A copy of names.
