@@ -40,6 +40,7 @@ PART = "error: --part takes I/N, with I from 1 to N\n"
 REFUSED = [
     ("encode s -", "error: - needs a name, --as NAME\n"),
     ("encode s a - --as b", "error: --as and - take one FILE alone\n"),
+    ("encode s a --as b/c", "error: --as takes a name without /\n"),
     ("lost s\udcff", "error: an argument is not text\n"),
     ("remove s", f"{MISSING}<NAME>...\n\nUsage: rebuild-store remove <STORE> <NAME>...{MORE}"),
     ("", f"error: rebuild-store takes a command{MORE}"),

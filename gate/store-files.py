@@ -1184,6 +1184,10 @@ def test_standard_input(place, choose):
     hold("--as NAME" in err, err)
     _, err = run("encode", store, place / "file", place / "file", "--as", "c", status=2)
     hold("take one FILE alone" in err, err)
+    for name in ("2025/notes", "/notes", "notes/"):
+        for words in ([place / "file"], ["-"]):
+            _, err = run("encode", place / "new", *words, "--as", name, status=2)
+            hold(err == "error: --as takes a name without /\n" and not (place / "new").exists(), err)
     hold(not [it for it in there(store) if it.startswith(".rebuild")], sorted(there(store)))
 
 

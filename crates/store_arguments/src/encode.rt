@@ -102,6 +102,9 @@ impl<'a> EncodeOptions<'a> {
         if name.is_none() && has_input {
             return Err(UsageFault::NeedsName);
         }
+        if name.is_some_and(|name| name.contains('/')) {
+            return Err(UsageFault::FolderInName);
+        }
         Ok(EncodeOptions {
             folder: folder_of(matches),
             files,

@@ -26,6 +26,8 @@ pub enum UsageFault {
     OneFile,
     #[error("error: - needs a name, --as NAME\n")]
     NeedsName,
+    #[error("error: --as takes a name without /\n")]
+    FolderInName,
     #[error("out of memory")]
     OutOfMemory,
 }
