@@ -204,6 +204,24 @@ def test_verify_beside_a_folder_that_fails(place, choose):
     hold(out == b"verified 1 file; not as described: 0\n", out)
 
 
+def test_verify_what_cannot_be_read(place, choose):
+    """A file of which too little can be read isn't taken for another one: what can't be read is named, with a status that says so."""
+    store, calls, tried = place / "store", Calls(place), set()
+    run("encode", store, source(place, "a", choose.randbytes(6_000)), status=0)
+    for name in ("x1", "x2", "y1", "p0"):
+        (store / f"a.{name}").unlink()
+    for command in (["verify", store, "a"], ["read", store, "a"], ["read", store, "a", "-o", place / "out"]):
+        for number, kind in enumerate(calls.run([PROGRAM, *command]).kinds, 1):
+            ended = calls.run([PROGRAM, *command], number, 5, rest="path") if kind in ("open", "read") else None
+            if ended and ended.paths[0].startswith(f"{store}/a.") and ".file" not in ended.paths[0]:
+                tried.add((command[0], kind))
+                # Where some of it is written by then, the file is named in place of the fragment.
+                named = [ended.paths[0], *(["a"] if command == ["read", store, "a"] else [])]
+                said = any(f"rebuild-store: {name}: Input/output error" in ended.err for name in named)
+                hold(ended.status == 3 and said, f"{kind}: {ended.text()}")
+    hold(len(tried) == 4, tried)
+
+
 def test_read_to_a_file(place, choose):
     """A file that is read to has its name when it is whole; what is there keeps its rights, a FIFO and a link stay."""
     store, data = place / "store", choose.randbytes(100_001)

@@ -9,7 +9,7 @@ ghost use Rattle.std.specs.Prelude.{◌≡◌, vec_len};
 
 use choosing::set_that_fits;
 use destination::write_at;
-use fragments::{Fragments, Missing, open_fragments};
+use fragments::{Fragments, Missing, open_fragments, unread_of};
 use output::write_out;
 use store_faults::FileFault;
 use store_files::{Sought, StoredFile, descriptions_of, is_whole, staged_name};
@@ -56,6 +56,7 @@ fn read_fitting(
     file: &StoredFile<'_, '_>,
     output: ReadTo<'_>,
 ) -> Result<(), FileFault> {
+    let mut unread = None;
     for described in descriptions_of(rt, file)? {
         let sought = Sought::new(file, described);
         let fragments = open_fragments(rt, &sought, Missing::Said)?;
@@ -69,6 +70,12 @@ fn read_fitting(
         if is_read {
             return Ok(());
         }
+        if unread.is_none() {
+            unread = unread_of(rt, &sought, &fragments)?;
+        }
+    }
+    if let Some(fault) = unread {
+        return Err(fault);
     }
     let name = file.name;
     let what = format!(in rt.alloc();

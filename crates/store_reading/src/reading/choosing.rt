@@ -7,7 +7,8 @@ use std::io::ErrorKind;
 use store_faults::FileFault;
 use store_files::{Sought, StoredFile};
 use store_folder::{
-    Described, SUMS_NAME, description_names, digests_of, path_in, read_description, read_sums,
+    Described, SUMS_NAME, SumsFault, description_names, digests_of, path_in, read_description,
+    read_sums,
 };
 use store_names::folder_in;
 use store_repair::without;
@@ -224,8 +225,10 @@ fn with_digests(
 ) -> Result<PlaceSet, FileFault> {
     let alloc = rt.alloc();
     let path = path_in(alloc, sought.file.folder, SUMS_NAME)?;
-    let Ok(sums) = read_sums(rt, path.as_str(), sought.file.links) else {
-        return Ok(fragments.set);
+    let sums = match read_sums(rt, path.as_str(), sought.file.links) {
+        Ok(sums) => sums,
+        Err(SumsFault::OutOfMemory) => return Err(FileFault::OutOfMemory),
+        Err(_) => return Ok(fragments.set),
     };
     let mut opened = Vec::with_capacity(alloc, fragments.opened.len())?;
     for fragment in &fragments.opened {
@@ -235,14 +238,16 @@ fn with_digests(
     let mut set = PlaceSet::empty();
     for (place, digest) in Place::ALL.iter().zip(digests.iter()) {
         let name = sought.name_of(alloc, *place)?;
-        if let Some(Ok(digest)) = digest {
-            let fits = match sums.digest_of(name.as_str()) {
-                Some(listed) => *listed == *digest,
-                None => true,
-            };
-            if fits {
-                set = set.with(*place);
+        let fits = match (digest, sums.digest_of(name.as_str())) {
+            (Some(Ok(digest)), Some(listed)) => *listed == *digest,
+            (Some(Ok(_)), None) => true,
+            (Some(Err(error)), _) if error.kind() == ErrorKind::OutOfMemory => {
+                return Err(FileFault::OutOfMemory);
             }
+            _ => false,
+        };
+        if fits {
+            set = set.with(*place);
         }
     }
     Ok(set)

@@ -4,9 +4,12 @@ ghost use Rattle.store_repair.specs.Files.{fragment_length};
 
 use lrc_code::{Place, PlaceSet};
 use std::io::{self, ErrorKind};
-use store_faults::{FileFault, words_of};
+use store_faults::{FileFault, device, words_of};
 use store_files::{Digested, Sought, Unkept};
-use store_folder::{FileFragment, SystemOpen, open_fragment, path_in, refuse_linked_folders};
+use store_folder::{
+    Digest, FileFragment, SystemOpen, digest_of, is_absent, open_fragment, path_in,
+    refuse_linked_folders,
+};
 use store_progress::Counted;
 use store_repair::{MendFault, Survivors, fragment_length, read_file};
 
@@ -107,6 +110,49 @@ pub(crate) fn gives_file(
         Err(MendFault::OutOfMemory) => Err(FileFault::OutOfMemory),
         Err(_) => Ok(false),
     }
+}
+
+/// Why a fragment can't be read, if the system refuses one: the file may be there with it.
+pub(crate) fn unread_of(
+    rt: &HostRuntime,
+    sought: &Sought<'_, '_>,
+    fragments: &Fragments,
+) -> Result<Option<FileFault>, FileFault> {
+    let alloc = rt.alloc();
+    for (place, fragment) in Place::ALL.iter().zip(fragments.opened.iter()) {
+        if !sought.described.code.has(*place) {
+            continue;
+        }
+        let name = sought.name_of(alloc, *place)?;
+        let path = path_in(alloc, sought.file.folder, name.as_str())?;
+        let read = match fragment {
+            Some(fragment) => digest_of(alloc, fragment, sought.length),
+            None => digest_below(rt, sought, name.as_str(), path.as_str()),
+        };
+        match read {
+            Err(error) if !is_lost(error.kind()) => {
+                return Ok(Some(device(alloc, path.as_str(), error)));
+            }
+            _ => {}
+        }
+    }
+    Ok(None)
+}
+
+/// The digest of the fragment of a name in the store.
+fn digest_below(
+    rt: &HostRuntime,
+    sought: &Sought<'_, '_>,
+    name: &str,
+    path: &str,
+) -> io::Result<Digest> {
+    let fragment = open_below(rt, sought, name, path)?;
+    digest_of(rt.alloc(), &fragment, sought.length)
+}
+
+/// Whether the kind of an error says that a fragment isn't there, is no regular file or has another length.
+fn is_lost(kind: ErrorKind) -> bool {
+    is_absent(kind) || kind == ErrorKind::InvalidInput || kind == ErrorKind::UnexpectedEof
 }
 
 /// Some of the fragments, as survivors.
