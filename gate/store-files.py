@@ -1204,6 +1204,23 @@ def test_remove_by_the_name_of_a_description(place, choose):
     hold(set(there(store)) == {"SHA256SUMS"}, sorted(there(store)))
 
 
+def test_remove_where_the_digests_cannot_be_written(place, choose):
+    """A file that stays, since the digests can't be written once, keeps its digests where they are written for the next one."""
+    calls, first = Calls(place), place / "first"
+    run("encode", first, source(place, "a", choose.randbytes(600)), source(place, "b", b"b"), status=0)
+    shutil.copytree(first, place / "count")
+    kinds = calls.run([PROGRAM, "remove", place / "count", "a", "b"]).kinds
+    for number in range(1, kinds.index("unlink") + 1):
+        if kinds[number - 1] in ("create", "write", "sync", "rename"):
+            store = place / f"failing-{number}"
+            shutil.copytree(first, store)
+            ended = calls.run([PROGRAM, "remove", store, "a", "b"], number, 28)
+            where = f"call {number}, {kinds[number - 1]}: {ended.text()}"
+            hold(ended.status == 3 and "removed 1 file; not removed: 1" in ended.out, where)
+            hold({it.split(".")[0] for it in there(store)} == {"a", "SHA256SUMS"}, f"{where}: {sorted(there(store))}")
+            hold(are_right(store), f"{where}: {sorted(sums_of(store))}")
+
+
 def test_standard_input(place, choose):
     """Standard input is encoded under the name that is given, and what it was kept in is gone."""
     store, data = place / "store", choose.randbytes(600_000)

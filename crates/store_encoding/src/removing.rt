@@ -116,14 +116,37 @@ fn remove_both(
     if !is_stored {
         return Err(no_stored(rt.alloc(), name, target.folder)?);
     }
-    for names in lists {
-        forget_digests(target, names);
-    }
     let files = &mut SystemFolder::new(rt);
+    write_without(rt, files, target, &lists)?;
     take_out(rt, files, target, lists[0], lists[1])?;
-    // The digests are written, and only once.
-    target.is_changed = false;
     take_out(rt, files, target, lists[2], lists[3])
+}
+
+/// Writes the digests without those of the files of some names. Where they can't be written, the files stay, and so do their digests.
+fn write_without(
+    rt: &HostRuntime,
+    files: &mut SystemFolder<'_>,
+    target: &mut Target<'_>,
+    lists: &[&[String]],
+) -> Result<(), FileFault> {
+    let alloc = rt.alloc();
+    let mut forgotten = Vec::new(alloc);
+    for names in lists {
+        for name in *names {
+            if let Some(digest) = target.sums.digest_of(name.as_str()) {
+                forgotten.push((name.as_str(), *digest))?;
+            }
+        }
+        forget_digests(target, *names);
+    }
+    if let Err(fault) = write_new_sums(rt, files, target) {
+        for (name, digest) in &forgotten {
+            target.sums.set(alloc, *name, *digest)?;
+        }
+        return Err(fault);
+    }
+    target.is_changed = false;
+    Ok(())
 }
 
 /// The names of a stripe's descriptions that go with it.
