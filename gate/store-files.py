@@ -239,6 +239,10 @@ def test_read_to_a_file(place, choose):
     now = out.stat()
     hold(out.read_bytes() == data and (now.st_mode, now.st_uid, now.st_gid) == (before.st_mode, before.st_uid, before.st_gid),
          f"a file that was there has another owner or other rights: {now}")
+    for mode, kept in ((0o755, 0o755), (0o4755, 0o755), (0o400, 0o400)):
+        out.chmod(mode)
+        run("read", store, "a", "-o", out, status=0)
+        hold(stat.S_IMODE(out.stat().st_mode) == kept, f"{mode:o}: {out.stat()}")
     link, behind, fifo = place / "link", place / "behind", place / "fifo"
     behind.write_bytes(b"x" * 200_000)
     link.symlink_to(behind)

@@ -22,8 +22,11 @@ pub(crate) const PRIVATE: u32 = 0o600;
 /// The rights of a new file where the user's mask takes none.
 pub(crate) const OPEN: u32 = 0o666;
 
-/// A file gets no rights but these: none to run it, and none that its owner's or group's identity would go with.
+/// A file of a store gets no rights but these: none to run it, and none that its owner's or group's identity would go with.
 const MOST_RIGHTS: u32 = 0o666;
+
+/// A file that replaces one of its user's gets those to run it too.
+const MOST_OF_REPLACED: u32 = 0o777;
 
 /// A new file that gets a name in a store, or beside one.
 #[derive(Drop)]
@@ -34,12 +37,17 @@ pub struct NewFile<N: folders::NewFile = SystemNew> {
 /// Gives a file the owner and the group of another one, by what is said of that, and then its rights to read and write. Who may not give it
 /// away keeps it, with the rights that it was made with. Says whether it was given.
 pub(crate) fn take_after<N: folders::NewFile>(file: &N, rights: &Rights) -> io::Result<bool> {
+    take_some(file, rights, MOST_RIGHTS)
+}
+
+/// The same with its rights that are among some.
+fn take_some<N: folders::NewFile>(file: &N, rights: &Rights, most: u32) -> io::Result<bool> {
     match file.set_owner(rights) {
         Ok(()) => {}
         Err(error) if error.kind() == ErrorKind::PermissionDenied => return Ok(false),
         Err(error) => return Err(error),
     }
-    file.set_mode(rights.mode & MOST_RIGHTS)?;
+    file.set_mode(rights.mode & most)?;
     Ok(true)
 }
 
@@ -52,13 +60,14 @@ impl<N: folders::NewFile> NewFragment for NewFile<N> {
 }
 
 impl NewFile {
-    /// Gives the file the owner, the group and the rights to read and write of another one. Who may not give it away keeps it as it is.
-    /// Says whether it was given.
+    /// Gives the file the owner, the group and the rights of another one that it replaces, but none that its owner's or group's identity
+    /// would go with. Who may not give it away keeps it as it is. Says whether it was given.
     pub fn take_after(&self, other: &Metadata) -> io::Result<bool> {
-        self.take_rights(&Rights::of(other))
+        take_some(&self.unfinished.file, &Rights::of(other), MOST_OF_REPLACED)
     }
 
-    /// Gives the file an owner, a group and the rights to read and write, as the call before does those of another file.
+    /// Gives the file an owner, a group and the rights to read and write. Who may not give it away keeps it as it is. Says whether it was
+    /// given.
     pub fn take_rights(&self, rights: &Rights) -> io::Result<bool> {
         take_after(&self.unfinished.file, rights)
     }
