@@ -812,6 +812,65 @@ def test_replacement_without_memory(place, choose):
     hold({4} <= {ran.status for ran in ended}, f"runs ended with {({ran.status for ran in ended})}")
 
 
+def lasting(store):
+    """The bytes of the files of a store by their paths, but for those that a killed run hadn't made yet."""
+    return {path: data for path, data in there(store).items() if not pathlib.Path(path).name.startswith(".rebuild-store-")}
+
+
+def test_replacement_whose_description_fails(place, choose):
+    """What was begun isn't thrown away, nor the old file read, where the only description of the new one can't be read for a while."""
+    kept, _, new = begun_replacement(place, choose)
+    calls, store = Calls(place), place / "again"
+    command, staged = [PROGRAM, "encode", "--replace", store, place / "a"], store / f"a{STAGED}.file"
+    shutil.copytree(kept, store)
+    renames = [number for number, kind in enumerate(calls.run(command).kinds, 1) if kind == "rename"]
+    hold(calls.run([*command[:3], kept, place / "a"], renames[3], "kill").status == -9, "the run wasn't killed when it had given names")
+    (kept / f"{staged.name}.copy").unlink()
+    before, tried = lasting(kept), set()
+    for words in (command, [PROGRAM, "read", store, "a"]):
+        shutil.rmtree(store)
+        shutil.copytree(kept, store)
+        for number, kind in enumerate(calls.run(words).kinds, 1):
+            if kind in ("look", "open", "read"):
+                shutil.rmtree(store)
+                shutil.copytree(kept, store)
+                ended = calls.run(words, number, (5, 13, 116)[number % 3], "path")
+                if ended.paths == (str(staged),) and not (kind == "look" and ended.status == 0):
+                    tried.add((words[1], kind))
+                    hold(ended.status == 3 and lasting(store) == before, f"call {number}, {kind}: {ended.text()}")
+                    run(*command[1:], status=0)
+                    hold(decoded(store, "a") == new and are_right(store), f"call {number}, {kind}: not the new file after that")
+            if kind == "rename":
+                break
+    hold(len(tried) == 6, f"tried {tried}")
+
+
+def test_replacement_whose_disk_is_away(place, choose):
+    """What has been given names isn't thrown away where the disk that describes it is away."""
+    kept, old, new = begun_replacement(place, choose, *DISKS)
+    calls, store = Calls(place), place / "again"
+    for number in range(1, 10):
+        (kept / f"disk{number}/a{STAGED}.file").unlink()
+    shutil.copytree(kept, store)
+    command = [PROGRAM, "encode", "--replace", *DISKS, store, place / "a"]
+    kinds = calls.run(command).kinds
+    renames = [number for number, kind in enumerate(kinds, 1) if kind == "rename"]
+    for number in [*renames[2:12], *(number for number, kind in enumerate(kinds, 1) if kind == "unlink" and number > renames[9])][:16]:
+        shutil.rmtree(store)
+        shutil.copytree(kept, store)
+        hold(calls.run(command, number, "kill").status == -9, f"call {number} isn't made")
+        (store / "disk0").rename(place / "away")
+        (store / "disk0").mkdir()
+        before = lasting(store)
+        _, err = run(*command[1:], status=1)
+        hold("too little of it is there" in err and lasting(store) == before, f"call {number}: {err}")
+        (store / "disk0").rmdir()
+        (place / "away").rename(store / "disk0")
+        run(*command[1:], status=0)
+        hold(run("read", *DISKS, store, "a", status=0)[0] == new, f"call {number}: not the new file")
+        hold(not [it for it in there(store) if STAGED in it], f"call {number}: left {sorted(there(store))}")
+
+
 def test_replacement_that_is_taken_out(place, choose):
     """The folders that a file was to be replaced in go with it."""
     names = ["--names", "{stripe}/{place}"]

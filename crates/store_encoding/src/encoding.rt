@@ -1,4 +1,5 @@
 //! Encoding a file into a store: the fragments of its stripe, and its description.
+mod begun;
 pub(crate) mod descriptions;
 pub(crate) mod fragments;
 mod ordering;

@@ -95,20 +95,40 @@ fn undescribed(rt: &HostRuntime, file: &StoredFile<'_, '_>) -> Result<FileFault,
     Ok(FileFault::Refused { what })
 }
 
-/// What the first copy of a file's description says that can be read.
+/// What the first copy of a file's description says that can be read. What can't be read counts as not there.
 pub fn first_described(
     rt: &HostRuntime,
     file: &StoredFile<'_, '_>,
 ) -> Result<Option<Described>, FileFault> {
-    let alloc = rt.alloc();
-    for copy in description_names(alloc, &file.pattern, Code::Wide, file.name)? {
-        let path = path_in(alloc, file.folder, copy.as_str())?;
-        match read_description(rt, path.as_str(), file.links) {
+    let mut refused = None;
+    first_said(rt, file, &mut refused)
+}
+
+/// What the first copy of a file's description says that can be read. If no copy says anything, one that is there but can't be read isn't
+/// taken for nothing.
+pub fn described_for_sure(
+    rt: &HostRuntime,
+    file: &StoredFile<'_, '_>,
+) -> Result<Option<Described>, FileFault> {
+    let mut refused = None;
+    match first_said(rt, file, &mut refused)? {
+        Some(described) => Ok(Some(described)),
+        None => refused.map_or(Ok(None), Err),
+    }
+}
+
+/// What the first copy of a file's description says that can be read, and why the last one before it that can't be read can't.
+fn first_said(
+    rt: &HostRuntime,
+    file: &StoredFile<'_, '_>,
+    refused: &mut Option<FileFault>,
+) -> Result<Option<Described>, FileFault> {
+    for copy in description_names(rt.alloc(), &file.pattern, Code::Wide, file.name)? {
+        match description_at(rt, file, copy.as_str()) {
             Ok(Some(described)) => return Ok(Some(described)),
-            Err(error) if error.kind() == ErrorKind::OutOfMemory => {
-                return Err(FileFault::OutOfMemory);
-            }
-            _ => {}
+            Ok(None) => {}
+            Err(fault) if matches!(&fault, FileFault::OutOfMemory) => return Err(fault),
+            Err(fault) => *refused = Some(fault),
         }
     }
     Ok(None)
@@ -116,14 +136,41 @@ pub fn first_described(
 
 /// Whether there is a stripe of a name that is to replace another one: one of its descriptions, which are made last, and so many fragments
 /// that they give the others. A disk that was away when it replaced the other one has fewer. What can't be looked at counts as not there,
-/// and is said.
+/// and is said; but where no description can be read and one may be there, of a stripe that may be whole, that is a fault.
 pub fn is_whole(rt: &HostRuntime, file: &StoredFile<'_, '_>) -> Result<bool, FileFault> {
-    let Some(described) = first_described(rt, file)? else {
-        return Ok(false);
+    let mut refused = None;
+    let Some(described) = first_said(rt, file, &mut refused)? else {
+        return match refused {
+            Some(fault) if may_be_whole(rt, file)? => Err(fault),
+            _ => Ok(false),
+        };
     };
     let code = described.code;
     let there = fragments_there(rt, file, code)?;
-    let lost = lost_places(rt.alloc(), code, there, code.others(there))?;
+    determine(rt.alloc(), code, there)
+}
+
+/// Whether there may be a stripe whose descriptions can't be read, of either code: what can't be looked at of its fragments may be there.
+fn may_be_whole(rt: &HostRuntime, file: &StoredFile<'_, '_>) -> Result<bool, FileFault> {
+    for code in [Code::Narrow, Code::Wide] {
+        let mut there = PlaceSet::empty();
+        for place in code.places() {
+            match has_fragment(rt, file, code, *place) {
+                Ok(false) => {}
+                Err(fault) if matches!(&fault, FileFault::OutOfMemory) => return Err(fault),
+                _ => there = there.with(*place),
+            }
+        }
+        if determine(rt.alloc(), code, there)? {
+            return Ok(true);
+        }
+    }
+    Ok(false)
+}
+
+/// Whether the fragments at some places give the others of their stripe.
+fn determine(alloc: Global, code: Code, there: PlaceSet) -> Result<bool, FileFault> {
+    let lost = lost_places(alloc, code, there, code.others(there))?;
     Ok(lost.several.is_empty())
 }
 

@@ -13,7 +13,9 @@ mod staging;
 mod stored_file;
 mod target;
 
-pub use descriptions::{descriptions_of, first_described, is_whole, own_description};
+pub use descriptions::{
+    described_for_sure, descriptions_of, first_described, is_whole, own_description,
+};
 pub use digesting::{Digested, Unkept, digest_at};
 pub use staging::{has_some, is_staged, is_there, no_stored, refuse_linked, staged_name};
 pub use stored_file::{Sought, StoredFile};

@@ -9,23 +9,20 @@ ghost use Rattle.store_encoding.specs.Digests.{KeepsBeside, KeepsBut, KeepsDiges
 ghost use Rattle.store_encoding.specs.Names.{AreApart, CanGive, IsPairOf, Replaces, path_of};
 ghost use Rattle.store_encoding.specs.Replaced.{AllGot, GivesOnly, Goes, IsGivenTo, ReplacesFile};
 
+use crate::encoding::begun::is_to_replace;
 use crate::encoding::source::no_name;
 use crate::encoding::stripe_files::{StripeFiles, are_apart};
 use crate::encoding::subfolders::make_folders;
 use crate::encoding::sums::{forget_digests, write_new_sums};
 use crate::encoding::{Given, encode_as};
 use crate::own_folders::{has_folders, remove_own_folders};
-use crate::refusing::refused;
 use crate::removing::{has_any, remove_names};
 use folders::Folder;
 use std::alloc::{AllocError, Global};
 use std::slice;
 use std::thread::Threads;
 use store_faults::{FileFault, device};
-use store_files::{
-    StoredFile, Target, first_described, has_some, is_whole, own_description, refuse_linked,
-    staged_name,
-};
+use store_files::{StoredFile, Target, has_some, own_description, refuse_linked, staged_name};
 use store_folder::{SystemFolder, first_description_name, give_name};
 
 /// Replaces the file of a name.
@@ -163,20 +160,9 @@ fn replace_begun(
     if !are_apart(target.folder, begun, replaced) {
         return Err(no_name(rt, name));
     }
+    let is_whole = is_to_replace(rt, target, file, begun, replaced)?;
     let files = &mut SystemFolder::new(rt);
-    let is_described = first_described(rt, file)?.is_some();
-    // A disk that was away when all of this was done elsewhere has its share of it alone.
-    if is_described && !is_whole(rt, file)? {
-        return Err(too_little(rt, file.name));
-    }
-    end(rt, files, target, begun, replaced, is_described)
-}
-
-/// That too little is there of a stripe which is to replace another one.
-fn too_little(rt: &HostRuntime, name: &str) -> FileFault {
-    refused(format!(in rt.alloc();
-        "{name}: too little of it is there to replace a file: bring its disks back, or remove it"
-    ))
+    end(rt, files, target, begun, replaced, is_whole)
 }
 
 /// Gives the files of a stripe the names of another one's, if they are whole, writes the digests, and takes their own names away. At each
