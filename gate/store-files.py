@@ -871,6 +871,23 @@ def test_replacement_whose_disk_is_away(place, choose):
         hold(not [it for it in there(store) if STAGED in it], f"call {number}: left {sorted(there(store))}")
 
 
+def test_replacement_that_was_damaged(place, choose):
+    """What was damaged since it was made replaces nothing, unless fragments of its length give the file that is described."""
+    said = b"the fragments that are there don't give the file that a.rebuild-store-new.file describes"
+    for damaged, damage, is_read in (("x0 x1 x2 px", b"", False), ("x0 x1 x2 y0 y1 y2", b"cut", False), ("y1", None, False),
+                                     ("x0 x1 y0 p1", b"", True)):
+        store, old, new = begun_replacement(place, choose)
+        for one in damaged.split():
+            fragment = store / f"a{STAGED}.{one}"
+            fragment.write_bytes(bytes(fragment.stat().st_size) if damage is None else damage)
+        before, ended = lasting(store), ran("encode", store, source(place, "a", new))
+        if not is_read:
+            hold(ended.returncode == 1 and said in ended.stderr and lasting(store) == before, f"{damaged}: {ended.stderr}")
+            run("remove", "--code", "6-2-2", store, f"a{STAGED}", status=0)
+        hold(run("read", store, "a", status=0)[0] == (new if is_read else old), f"{damaged}: another file is read")
+        shutil.rmtree(store)
+
+
 def test_replacement_that_is_taken_out(place, choose):
     """The folders that a file was to be replaced in go with it."""
     names = ["--names", "{stripe}/{place}"]

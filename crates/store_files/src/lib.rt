@@ -7,12 +7,14 @@
 //! ```
 #![tactic(auto)]
 
+mod as_described;
 mod descriptions;
 mod digesting;
 mod staging;
 mod stored_file;
 mod target;
 
+pub use as_described::is_as_described;
 pub use descriptions::{
     described_for_sure, descriptions_of, first_described, is_whole, own_description,
 };

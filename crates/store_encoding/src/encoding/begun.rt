@@ -3,29 +3,52 @@ use crate::encoding::stripe_files::StripeFiles;
 use crate::refusing::refused;
 use std::fs::{self, Metadata};
 use store_faults::{FileFault, device};
-use store_files::{StoredFile, Target, described_for_sure, digest_at, is_whole};
+use store_files::{
+    Sought, StoredFile, Target, described_for_sure, digest_at, is_as_described, is_whole,
+};
 use store_folder::{Identity, is_absent};
 
+/// What was begun that is to replace a file.
+#[derive(Clone, Copy)]
+pub(crate) struct Begun<'a, 'p> {
+    pub(crate) file: StoredFile<'a, 'p>,
+    /// Whether this run has made it, and so knows what its fragments have.
+    pub(crate) is_new: bool,
+}
+
 /// Whether what was begun is to replace a file: something describes it, and it is whole. Else it is to go, if nothing describes it; but if
-/// it was given names already, or may be described on a disk that is away, it may be all that there is of the file, and is refused.
+/// it was given names already, or may be described on a disk that is away, it may be all that there is of the file, and is refused. So is
+/// what was damaged since another run made it.
 pub(crate) fn is_to_replace(
     rt: &HostRuntime,
     target: &Target<'_>,
-    file: &StoredFile<'_, '_>,
-    begun: &StripeFiles,
+    begun: &Begun<'_, '_>,
+    files: &StripeFiles,
     replaced: &StripeFiles,
 ) -> Result<bool, FileFault> {
-    let is_described = described_for_sure(rt, file)?.is_some();
-    // A disk that was away when all of this was done elsewhere has its share of it alone.
-    let is_enough = if is_described {
-        is_whole(rt, file)?
-    } else {
-        !is_half_given(rt, target, begun, replaced)?
+    let file = &begun.file;
+    let Some(described) = described_for_sure(rt, file)? else {
+        return if is_half_given(rt, target, files, replaced)? {
+            Err(too_little(rt, file.name))
+        } else {
+            Ok(false)
+        };
     };
-    if !is_enough {
+    // A disk that was away when all of this was done elsewhere has its share of it alone.
+    if !is_whole(rt, file)? {
         return Err(too_little(rt, file.name));
     }
-    Ok(is_described)
+    if !begun.is_new && !is_as_described(rt, &Sought::new(file, described))? {
+        return Err(damaged(rt, file.name));
+    }
+    Ok(true)
+}
+
+/// That the fragments of a stripe which is to replace another one don't give its file.
+fn damaged(rt: &HostRuntime, name: &str) -> FileFault {
+    refused(format!(in rt.alloc();
+        "{name}: the fragments that are there don't give the file that {name}.file describes"
+    ))
 }
 
 /// That too little is there of a stripe which is to replace another one.
@@ -40,12 +63,12 @@ fn too_little(rt: &HostRuntime, name: &str) -> FileFault {
 fn is_half_given(
     rt: &HostRuntime,
     target: &Target<'_>,
-    begun: &StripeFiles,
+    files: &StripeFiles,
     replaced: &StripeFiles,
 ) -> Result<bool, FileFault> {
     let mut has_given = false;
     let mut is_ended = true;
-    for (name, other) in begun.fragments.iter().zip(replaced.fragments.iter()) {
+    for (name, other) in files.fragments.iter().zip(replaced.fragments.iter()) {
         let Some(there) = status_of(rt, target, name.as_str())? else {
             continue;
         };

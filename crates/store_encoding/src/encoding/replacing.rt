@@ -9,7 +9,7 @@ ghost use Rattle.store_encoding.specs.Digests.{KeepsBeside, KeepsBut, KeepsDiges
 ghost use Rattle.store_encoding.specs.Names.{AreApart, CanGive, IsPairOf, Replaces, path_of};
 ghost use Rattle.store_encoding.specs.Replaced.{AllGot, GivesOnly, Goes, IsGivenTo, ReplacesFile};
 
-use crate::encoding::begun::is_to_replace;
+use crate::encoding::begun::{Begun, is_to_replace};
 use crate::encoding::source::no_name;
 use crate::encoding::stripe_files::{StripeFiles, are_apart};
 use crate::encoding::subfolders::make_folders;
@@ -44,7 +44,7 @@ pub(crate) fn replace<R: Threads + Sync>(
         }
         return Err(fault);
     }
-    finish_replacing(rt, target, name)
+    finish_staged(rt, target, name, staged, true)
 }
 
 /// Encodes a file as a stripe that is to replace another one, of this name, in folders that are made for it.
@@ -67,15 +67,16 @@ pub(crate) fn finish_replacing(
     name: &str,
 ) -> Result<(), FileFault> {
     let staged = staged_name(rt.alloc(), name)?;
-    finish_staged(rt, target, name, staged.as_str())
+    finish_staged(rt, target, name, staged.as_str(), false)
 }
 
-/// The same of the stripe that was to replace it, by the name of that.
+/// The same of the stripe that was to replace it, by the name of that, whether this run has made it or another.
 fn finish_staged(
     rt: &HostRuntime,
     target: &mut Target<'_>,
     name: &str,
     staged: &str,
+    is_new: bool,
 ) -> Result<(), FileFault> {
     let file = StoredFile {
         folder: target.folder,
@@ -85,7 +86,7 @@ fn finish_staged(
         progress: None,
     };
     if has_some(rt, &file, target.code, target.code.places())? {
-        replace_files(rt, target, &file, name)?;
+        replace_files(rt, target, &Begun { file, is_new }, name)?;
         remove_own_folders(rt, target, staged, name)?;
     }
     Ok(())
@@ -95,15 +96,16 @@ fn finish_staged(
 fn replace_files(
     rt: &HostRuntime,
     target: &mut Target<'_>,
-    file: &StoredFile<'_, '_>,
+    begun: &Begun<'_, '_>,
     name: &str,
 ) -> Result<(), FileFault> {
     let alloc = rt.alloc();
-    let mut begun = StripeFiles::of(alloc, target, file.name)?;
+    let staged = begun.file.name;
+    let mut files = StripeFiles::of(alloc, target, staged)?;
     let mut replaced = StripeFiles::of(alloc, target, name)?;
-    let added = add_own_description(rt, target, file.name, name, &mut begun, &mut replaced);
-    match added.and_then(|()| add_lost_descriptions(rt, target, &mut begun, &mut replaced)) {
-        Ok(()) => replace_begun(rt, target, file, name, &begun, &replaced),
+    let added = add_own_description(rt, target, staged, name, &mut files, &mut replaced);
+    match added.and_then(|()| add_lost_descriptions(rt, target, &mut files, &mut replaced)) {
+        Ok(()) => replace_begun(rt, target, begun, name, &files, &replaced),
         Err(fault) => Err(fault),
     }
 }
@@ -150,19 +152,19 @@ fn add_lost_descriptions(
 fn replace_begun(
     rt: &HostRuntime,
     target: &mut Target<'_>,
-    file: &StoredFile<'_, '_>,
+    begun: &Begun<'_, '_>,
     name: &str,
-    begun: &StripeFiles,
+    files: &StripeFiles,
     replaced: &StripeFiles,
 ) -> Result<(), FileFault> {
-    refuse_linked(rt, target, begun.descriptions.as_slice())?;
-    refuse_linked(rt, target, begun.fragments.as_slice())?;
-    if !are_apart(target.folder, begun, replaced) {
+    refuse_linked(rt, target, files.descriptions.as_slice())?;
+    refuse_linked(rt, target, files.fragments.as_slice())?;
+    if !are_apart(target.folder, files, replaced) {
         return Err(no_name(rt, name));
     }
-    let is_whole = is_to_replace(rt, target, file, begun, replaced)?;
-    let files = &mut SystemFolder::new(rt);
-    end(rt, files, target, begun, replaced, is_whole)
+    let is_whole = is_to_replace(rt, target, begun, files, replaced)?;
+    let system = &mut SystemFolder::new(rt);
+    end(rt, system, target, files, replaced, is_whole)
 }
 
 /// Gives the files of a stripe the names of another one's, if they are whole, writes the digests, and takes their own names away. At each
