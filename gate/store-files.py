@@ -888,6 +888,28 @@ def test_replacement_that_was_damaged(place, choose):
         shutil.rmtree(store)
 
 
+def test_replace_leaves_what_is_no_description(place, choose):
+    """What has the name of a description and can't be one stays, and refuses the file, also where all of the new one is there."""
+    for names, described in (([], "a.file"), ([], "a.file.copy"), (DISKS, "disk3/a.file")):
+        for begun in (False, True):
+            for make, said in ((lambda it: it.write_bytes(bytes(100_000)), "is longer than a description, and isn't replaced"),
+                               (os.mkfifo, "is no regular file, and isn't replaced"),
+                               (lambda it: it.symlink_to(place / "a"), "is no regular file, and isn't replaced")):
+                if begun:
+                    store, _, _ = begun_replacement(place, choose, *names)
+                else:
+                    store = place / "store"
+                    run("encode", "--make-folders", *names, store, source(place, "a", choose.randbytes(2_000)), status=0)
+                other = store / described
+                other.unlink()
+                make(other)
+                before, kind = lasting(store), stat.S_IFMT(other.lstat().st_mode)
+                _, err = run("encode", "--replace", *names, store, source(place, "a", choose.randbytes(900)), status=1)
+                hold(f"{described}: {said}" in err and lasting(store) == before, f"{described}, {begun}: {err}")
+                hold(stat.S_IFMT(other.lstat().st_mode) == kind, f"{described}, {begun}: it was replaced")
+                shutil.rmtree(store)
+
+
 def test_replacement_that_is_taken_out(place, choose):
     """The folders that a file was to be replaced in go with it."""
     names = ["--names", "{stripe}/{place}"]

@@ -11,7 +11,6 @@ pub(crate) mod stripe_files;
 pub(crate) mod subfolders;
 pub(crate) mod sums;
 
-use crate::refusing::refused;
 use crate::removing::has_any;
 use fragments::{Encoded, make_encoded, source_digest};
 use lrc_code::{Code, Place};
@@ -21,15 +20,15 @@ use replacing::{finish_replacing, replace};
 use source::{is_changed, no_name, regular, stripe_name};
 use std::fs::Metadata;
 use std::thread::Threads;
-use store_faults::{FileFault, device, fragment_name, source_fault};
+use store_faults::{FileFault, fragment_name, source_fault};
 use store_files::{Target, is_staged, is_there};
 use store_folder::{
-    Described, Digest, KEPT, Links, SystemFolder, is_absent, is_description_name, look_at,
-    open_fragment, path_in, read_description,
+    Described, Digest, KEPT, Links, SystemFolder, is_description_name, open_fragment, path_in,
+    read_description,
 };
 use store_progress::{Progress, refuse_over_limit};
 use store_repair::fragment_length;
-use stripe_files::StripeFiles;
+use stripe_files::{StripeFiles, refuse_irregular};
 use subfolders::make_folders;
 
 /// A file that is encoded.
@@ -72,7 +71,8 @@ pub fn encode_file<R: Threads + Sync>(
     match encode_beside(threads, rt, target, name, &given) {
         Err(fault) if target.replaces && matches!(&fault, FileFault::Refused { .. }) => {
             drop(fault);
-            refuse_irregular(rt, target, name)?;
+            let files = StripeFiles::of(rt.alloc(), target, name)?;
+            refuse_irregular(rt, target, &files)?;
             replace(threads, rt, target, name, &given)
         }
         done => done,
@@ -89,26 +89,6 @@ fn encode_beside<R: Threads + Sync>(
 ) -> Result<(), FileFault> {
     refuse_others(rt, target, name, given)?;
     encode_as(threads, rt, target, name, given)
-}
-
-/// Refuses to replace a stripe under the name of one of whose fragments there is something else than a file.
-fn refuse_irregular(rt: &HostRuntime, target: &Target<'_>, name: &str) -> Result<(), FileFault> {
-    let alloc = rt.alloc();
-    for fragment in target.names(alloc, name)? {
-        let path = target.path(alloc, fragment.as_str())?;
-        match look_at(rt, path.as_str(), target.links) {
-            Ok(there) if !there.is_file() => {
-                return Err(refused(format!(in alloc;
-                    "{fragment}: is no regular file, and isn't replaced"
-                )));
-            }
-            Err(error) if !is_absent(error.kind()) => {
-                return Err(device(alloc, path.as_str(), error));
-            }
-            _ => {}
-        }
-    }
-    Ok(())
 }
 
 /// Refuses a file that can't be opened to be read, or hasn't so many bytes.

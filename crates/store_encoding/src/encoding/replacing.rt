@@ -11,7 +11,7 @@ ghost use Rattle.store_encoding.specs.Replaced.{AllGot, GivesOnly, Goes, IsGiven
 
 use crate::encoding::begun::{Begun, is_to_replace};
 use crate::encoding::source::no_name;
-use crate::encoding::stripe_files::{StripeFiles, are_apart};
+use crate::encoding::stripe_files::{StripeFiles, are_apart, refuse_irregular};
 use crate::encoding::subfolders::make_folders;
 use crate::encoding::sums::{forget_digests, write_new_sums};
 use crate::encoding::{Given, encode_as};
@@ -163,6 +163,9 @@ fn replace_begun(
         return Err(no_name(rt, name));
     }
     let is_whole = is_to_replace(rt, target, begun, files, replaced)?;
+    if is_whole {
+        refuse_irregular(rt, target, replaced)?;
+    }
     let system = &mut SystemFolder::new(rt);
     end(rt, system, target, files, replaced, is_whole)
 }

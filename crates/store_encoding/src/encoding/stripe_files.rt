@@ -1,4 +1,4 @@
-//! The names of a stripe's files, and whether these can get the names of another stripe's.
+//! The names of a stripe's files, and whether these can get the names of another stripe's, and what has these can be replaced.
 ghost use Rattle.std.specs.Prelude.{◌≡◌, true, not, ◌&&◌, codes, string_bytes};
 ghost use Rattle.std.specs.List.{list_all, list_any};
 ghost use Rattle.std.specs.Str.{bytes_eq};
@@ -6,9 +6,11 @@ ghost use Rattle.store_names.specs.Temporary.{is_free};
 ghost use Rattle.store_encoding.specs.Names.{AreApart};
 ghost use Rattle.store_encoding.specs.Own.{has, is_own, shares_none};
 
+use crate::refusing::refused;
 use std::alloc::{AllocError, Global};
+use store_faults::{FileFault, device};
 use store_files::Target;
-use store_folder::{SUMS_NAME, description_names};
+use store_folder::{MOST_BYTES, SUMS_NAME, description_names, is_absent, look_at};
 use store_names::is_free;
 
 /// The names in the store of a stripe's files.
@@ -38,6 +40,46 @@ impl StripeFiles {
             fragments: target.names(alloc, stripe)?,
         })
     }
+}
+
+/// Refuses to replace a stripe's files if something else has the name of one: what is no file, or what is too long for a description.
+pub(crate) fn refuse_irregular(
+    rt: &HostRuntime,
+    target: &Target<'_>,
+    files: &StripeFiles,
+) -> Result<(), FileFault> {
+    refuse_others_than(rt, target, files.fragments.as_slice(), u64::MAX)?;
+    refuse_others_than(rt, target, files.descriptions.as_slice(), MOST_BYTES)
+}
+
+/// Refuses to replace what has some names if that is something else than a file of at most so many bytes.
+fn refuse_others_than(
+    rt: &HostRuntime,
+    target: &Target<'_>,
+    names: &[String],
+    most: u64,
+) -> Result<(), FileFault> {
+    let alloc = rt.alloc();
+    for name in names {
+        let path = target.path(alloc, name.as_str())?;
+        match look_at(rt, path.as_str(), target.links) {
+            Ok(there) if !there.is_file() => {
+                return Err(refused(format!(in alloc;
+                    "{name}: is no regular file, and isn't replaced"
+                )));
+            }
+            Ok(there) if there.len() > most => {
+                return Err(refused(format!(in alloc;
+                    "{name}: is longer than a description, and isn't replaced"
+                )));
+            }
+            Err(error) if !is_absent(error.kind()) => {
+                return Err(device(alloc, path.as_str(), error));
+            }
+            _ => {}
+        }
+    }
+    Ok(())
 }
 
 /// Whether the files of a stripe in a folder can get the names of another one's: no name is of both, and none is one that files have which
