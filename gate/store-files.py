@@ -562,6 +562,7 @@ def test_replace_failing(place, choose):
         # What was begun is taken away, and so is what has no name yet. Once all fragments have theirs the file is as good as there.
         left = [it for it in there(store) if "rebuild-store" in it]
         is_early = kinds[:number].count("link") < len(PLACES) + 2
+        hold(ended.status == 0 or not is_early or read.stdout == old, f"{where}: a run that failed replaced the file")
         hold(kinds[number - 1] == "unlink" or not [it for it in left if is_early or STAGED not in it], f"{where}: left {left}")
         run(*command[1:], status=0)
         hold(decoded(store, "a") == new, f"{where}: not the new file after the same command")
@@ -908,6 +909,30 @@ def test_replace_leaves_what_is_no_description(place, choose):
                 hold(f"{described}: {said}" in err and lasting(store) == before, f"{described}, {begun}: {err}")
                 hold(stat.S_IFMT(other.lstat().st_mode) == kind, f"{described}, {begun}: it was replaced")
                 shutil.rmtree(store)
+
+
+def test_names_too_long_to_describe(place, choose):
+    """A file of whose description the name would be too long is refused before anything of it is made, and so is what would replace it."""
+    for length, words in ((246, []), (250, ["--replace"]), (252, []), (228, ["--replace"]), (232, ["--replace"])):
+        store, name = place / f"store-{length}", "n" * length
+        store.mkdir()
+        if length < 246:
+            run("encode", store, source(place, name, b"old"), status=0)
+        before = there(store)
+        _, err = run("encode", *words, store, source(place, name, choose.randbytes(900)), status=3)
+        hold("File name too long" in err and there(store) == before, f"{length}: {err} {sorted(it[-14:] for it in there(store))}")
+
+
+def test_description_of_what_is_gone(place, choose):
+    """A description of a file that was to replace another one, without its fragments, isn't taken for that of a new one."""
+    for names, described in (([], f"a{STAGED}.file.copy"), (DISKS, f"disk4/a{STAGED}.file")):
+        store, old = place / f"store-{len(names)}", choose.randbytes(2_000)
+        run("encode", "--make-folders", *names, store, source(place, "a", old), status=0)
+        (store / described).write_text(f"900 {hashlib.sha256(b'gone').hexdigest()} 6-2-2\n")
+        before = there(store)
+        _, err = run("encode", "--replace", *names, store, source(place, "a", choose.randbytes(900)), status=1)
+        hold("too little of it is there" in err and there(store) == before, f"{names}: {err}")
+        hold(run("read", *names, store, "a", status=0)[0] == old, f"{names}: not the old file is read")
 
 
 def test_replacement_that_is_taken_out(place, choose):

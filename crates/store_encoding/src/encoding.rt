@@ -28,7 +28,7 @@ use store_folder::{
 };
 use store_progress::{Progress, refuse_over_limit};
 use store_repair::fragment_length;
-use stripe_files::{StripeFiles, refuse_irregular};
+use stripe_files::{StripeFiles, refuse_irregular, refuse_long};
 use subfolders::make_folders;
 
 /// A file that is encoded.
@@ -122,6 +122,7 @@ pub(crate) fn encode_as<R: Threads + Sync>(
     let alloc = rt.alloc();
     let length = given.before.len();
     let names = StripeFiles::of(alloc, target, name)?;
+    refuse_long(rt, target, &names)?;
     let fragment_bytes = fragment_length(target.code, length as usize);
     refuse_over_limit(rt, given.name, fragment_bytes as u64)?;
     let Encoded { digest, made } = make_encoded(threads, rt, target, name, given)?;

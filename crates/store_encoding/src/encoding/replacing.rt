@@ -10,6 +10,7 @@ ghost use Rattle.store_encoding.specs.Names.{AreApart, CanGive, IsPairOf, Replac
 ghost use Rattle.store_encoding.specs.Replaced.{AllGot, GivesOnly, Goes, IsGivenTo, ReplacesFile};
 
 use crate::encoding::begun::{Begun, is_to_replace};
+use crate::encoding::placing::first_of;
 use crate::encoding::source::no_name;
 use crate::encoding::stripe_files::{StripeFiles, are_apart, refuse_irregular};
 use crate::encoding::subfolders::make_folders;
@@ -23,7 +24,7 @@ use std::slice;
 use std::thread::Threads;
 use store_faults::{FileFault, device};
 use store_files::{StoredFile, Target, has_some, own_description, refuse_linked, staged_name};
-use store_folder::{SystemFolder, first_description_name, give_name};
+use store_folder::{SystemFolder, description_names, first_description_name, give_name};
 
 /// Replaces the file of a name.
 pub(crate) fn replace<R: Threads + Sync>(
@@ -37,12 +38,12 @@ pub(crate) fn replace<R: Threads + Sync>(
     let staged = staged.as_str();
     let had_folders = has_folders(rt, target, staged)?;
     if let Err(fault) = encode_staged(threads, rt, target, staged, given) {
-        // Takes away what is there of it, as far as that can be done now.
-        drop(finish_replacing(rt, target, name));
+        // All of it is of this run, and none replaces the file, whose encoding failed.
+        let removed = discard_staged(rt, target, staged);
         if !had_folders {
             drop(remove_own_folders(rt, target, staged, name));
         }
-        return Err(fault);
+        return Err(first_of(removed, fault));
     }
     finish_staged(rt, target, name, staged, true)
 }
@@ -57,6 +58,18 @@ fn encode_staged<R: Threads + Sync>(
 ) -> Result<(), FileFault> {
     make_folders(rt, target, staged)?;
     encode_as(threads, rt, target, staged, given)
+}
+
+/// Takes away what there is of a stripe that was to replace another one.
+fn discard_staged(
+    rt: &HostRuntime,
+    target: &mut Target<'_>,
+    staged: &str,
+) -> Result<(), FileFault> {
+    let files = StripeFiles::of(rt.alloc(), target, staged)?;
+    refuse_linked(rt, target, files.descriptions.as_slice())?;
+    refuse_linked(rt, target, files.fragments.as_slice())?;
+    remove_all(rt, &mut SystemFolder::new(rt), target, &files)
 }
 
 /// Ends what a run has begun that was to replace the file of a name: if all of the new file is there it replaces the old one, and otherwise
@@ -85,11 +98,18 @@ fn finish_staged(
         links: target.links,
         progress: None,
     };
-    if has_some(rt, &file, target.code, target.code.places())? {
+    let places = target.code.places();
+    if has_some(rt, &file, target.code, places)? || has_description(rt, target, staged)? {
         replace_files(rt, target, &Begun { file, is_new }, name)?;
         remove_own_folders(rt, target, staged, name)?;
     }
     Ok(())
+}
+
+/// Whether something has the name of a description of a stripe.
+fn has_description(rt: &HostRuntime, target: &Target<'_>, name: &str) -> Result<bool, FileFault> {
+    let names = description_names(rt.alloc(), &target.pattern, target.code, name)?;
+    has_any(rt, target, names.as_slice())
 }
 
 /// Replaces the files of a stripe by those of one that has been begun, if these are whole, and else removes these.

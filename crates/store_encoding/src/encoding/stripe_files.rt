@@ -8,6 +8,8 @@ ghost use Rattle.store_encoding.specs.Own.{has, is_own, shares_none};
 
 use crate::refusing::refused;
 use std::alloc::{AllocError, Global};
+use std::fs;
+use std::io::ErrorKind;
 use store_faults::{FileFault, device};
 use store_files::Target;
 use store_folder::{MOST_BYTES, SUMS_NAME, description_names, is_absent, look_at};
@@ -40,6 +42,39 @@ impl StripeFiles {
             fragments: target.names(alloc, stripe)?,
         })
     }
+}
+
+/// Refuses a stripe one of whose files would have a longer name than its folder takes, before another has its own.
+pub(crate) fn refuse_long(
+    rt: &HostRuntime,
+    target: &Target<'_>,
+    files: &StripeFiles,
+) -> Result<(), FileFault> {
+    refuse_long_names(rt, target, files.fragments.as_slice())?;
+    refuse_long_names(rt, target, files.descriptions.as_slice())
+}
+
+/// Refuses names of which one is longer than its folder takes.
+fn refuse_long_names(
+    rt: &HostRuntime,
+    target: &Target<'_>,
+    names: &[String],
+) -> Result<(), FileFault> {
+    let alloc = rt.alloc();
+    for name in names {
+        let path = target.path(alloc, name.as_str())?;
+        match fs::symlink_metadata(rt, path.as_str()) {
+            Err(error)
+                if matches!(
+                    error.kind(),
+                    ErrorKind::InvalidFilename | ErrorKind::OutOfMemory
+                ) => {
+                return Err(device(alloc, path.as_str(), error));
+            }
+            _ => {}
+        }
+    }
+    Ok(())
 }
 
 /// Refuses to replace a stripe's files if something else has the name of one: what is no file, or what is too long for a description.
