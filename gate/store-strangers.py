@@ -1974,6 +1974,29 @@ def test_source_that_changes_meanwhile(place, choose):
     hold(refused == set(numbers), f"no changed file was refused, at the calls {numbers}")
 
 
+def test_source_that_gets_its_time_back(place, choose):
+    """A file that is rewritten while it is encoded, and gets its time back, is refused, or encoded as it is then."""
+    calls, store, source, refused = Calls(place), place / "back", place / "back-source", 0
+    command = [PROGRAM, "encode", store, source]
+    source.write_bytes(choose.randbytes(6_000))
+    for number, kind in enumerate(calls.run(command).kinds, 1):
+        shutil.rmtree(store, ignore_errors=True)
+        if kind == "open" and calls.run(command, number, errno.EIO).paths == (str(source),):
+            shutil.rmtree(store, ignore_errors=True)
+            about, after = source.stat(), choose.randbytes(6_000)
+            with waiting(calls, place, command, number) as go_on:
+                # What works beside the call that waits comes to its end.
+                time.sleep(0.2)
+                source.write_bytes(after)
+                os.utime(source, ns=(about.st_atime_ns, about.st_mtime_ns))
+                status, said = go_on()
+            is_refused = status == 1 and f"{source}: changed while it was read\n" in said
+            ended = subprocess.run([PROGRAM, "read", store, source.name], capture_output=True)
+            hold(is_refused or status == 0 and ended.stdout == after, f"call {number}: status {status}: {said}{ended.stderr.decode()}")
+            refused += is_refused
+    hold(refused > 0, "it is never refused")
+
+
 def test_source_that_changes_while_it_is_digested(place, choose):
     """A file that was encoded before, and is rewritten while its digest is read, is refused as changed."""
     calls, store, source, data = Calls(place), place / "digested", place / "digested-source", choose.randbytes(6_000)

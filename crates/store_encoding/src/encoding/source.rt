@@ -3,7 +3,7 @@ use crate::refusing::refused;
 use std::fs::{self, Metadata};
 use std::os::unix::fs::MetadataExt;
 use store_faults::{FileFault, device};
-use store_folder::is_of_runs;
+use store_folder::{Identity, is_of_runs};
 
 /// The name of the file at a path, which its stripe gets.
 pub(crate) fn stripe_name<'a>(rt: &HostRuntime, path: &'a str) -> Result<&'a str, FileFault> {
@@ -35,10 +35,12 @@ pub(crate) fn regular(rt: &HostRuntime, path: &str) -> Result<Metadata, FileFaul
     Ok(metadata)
 }
 
-/// Whether a file is another one, or was written to.
+/// Whether a file is another one, or was written to, also if its time of that was set back.
 pub(crate) fn is_changed(before: &Metadata, after: &Metadata) -> bool {
     before.len() != after.len()
         || before.mtime() != after.mtime()
         || before.mtime_nsec() != after.mtime_nsec()
-        || before.ino() != after.ino()
+        || before.ctime() != after.ctime()
+        || before.ctime_nsec() != after.ctime_nsec()
+        || Identity::of(before) != Identity::of(after)
 }
