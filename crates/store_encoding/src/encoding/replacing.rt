@@ -72,8 +72,9 @@ fn discard_staged(
     remove_all(rt, &mut SystemFolder::new(rt), target, &files)
 }
 
-/// Ends what a run has begun that was to replace the file of a name: if all of the new file is there it replaces the old one, and otherwise
-/// what is there of it is removed. Where nothing was begun, its folders stay too: they may be somebody else's.
+/// Ends what a run has begun that was to replace the file of a name. If all of the new file is there, it replaces the old one. What nothing
+/// describes is removed, unless it has names of the old one already. What is described, but has too few fragments or damaged ones, stays,
+/// and the file is refused. Where nothing was begun, its folders stay too: they may be somebody else's.
 pub(crate) fn finish_replacing(
     rt: &HostRuntime,
     target: &mut Target<'_>,
