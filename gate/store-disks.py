@@ -19,6 +19,7 @@ import tempfile
 sys.dont_write_bytecode = True
 ROOT = pathlib.Path(__file__).resolve().parent.parent
 sys.path.append(str(ROOT / "tools"))
+from faults import Calls  # noqa: E402
 from store import stripe  # noqa: E402
 
 PROGRAM = ROOT / "crates/rebuild_store/out/rebuild_store"
@@ -206,6 +207,26 @@ def test_leftover_folder(place, choose):
     hold(bytes_of(store / "s.x0") == files["s.x0"], "nothing was repaired beside a folder with the name of a leftover")
 
 
+def test_unmounted(place, choose):
+    """Nothing is made at the mount point of a disk that isn't mounted, also not under a temporary name, which a kill would leave there."""
+    words = ["--code", "6-2-2", "--names", "disk{shard}/{stripe}", "-j", "1"]
+    source = place / "source"
+    source.write_bytes(choose.randbytes(5_000))
+    for number in range(10):
+        mount(place / f"disk{number}", 512 * KIB)
+        (place / f"disk{number}").chmod(0o755)
+    run("encode", *words[:4], place, source, status=0)
+    system("umount", place / "disk3")
+    ended = Calls(place).run([PROGRAM, "repair", *words, place])
+    hold(ended.status == 3 and "create" not in ended.kinds, f"a file was made: {ended.text()}")
+    for name in ("source", "source.file"):
+        hold_named(ended.err, f"disk3/{name}", "No medium found")
+        (place / "disk3" / name).write_bytes(b"other")
+    said = run("repair", "--replace-damaged", *words, place, status=3)
+    there = {path.name: path.read_bytes() for path in (place / "disk3").iterdir()}
+    hold(there == {"source": b"other", "source.file": b"other"}, f"{sorted(there)}: {said}")
+
+
 def is_root():
     """Whether this is root of the whole machine, and not of a namespace of users alone."""
     return os.geteuid() == 0 and pathlib.Path("/proc/self/uid_map").read_text().split()[:2] == ["0", "0"]
@@ -317,8 +338,8 @@ def main(program):
     global PROGRAM
     PROGRAM = pathlib.Path(program or PROGRAM).resolve()
     choose = random.Random(2026)
-    tests = (test_full, test_most_lost_first, test_read_only, test_links, test_long_names, test_leftover_folder, test_other_users,
-             test_owner, test_cut)
+    tests = (test_full, test_most_lost_first, test_read_only, test_links, test_long_names, test_leftover_folder, test_unmounted,
+             test_other_users, test_owner, test_cut)
     with tempfile.TemporaryDirectory() as scratch:
         place = pathlib.Path(scratch)
         place.chmod(0o755)

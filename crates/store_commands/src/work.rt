@@ -259,7 +259,6 @@ fn descriptions_of(
     let described = DescribedStripe {
         name: stripe.name,
         length,
-        unmounted: store.unmounted.as_slice(),
     };
     let copies = work.with_copies();
     let done = tend_descriptions(system, stripes.site, &described, copies)?;

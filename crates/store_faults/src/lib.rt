@@ -22,5 +22,5 @@ pub use faults::store::{StoreFault, device_fault};
 pub use lines::{escaped, say, write};
 pub use names::fragment_name;
 pub use outputs::{COUNTER_PREFIX, REPORT_HEADER, ROW_BEGIN};
-pub use statuses::{DEVICE, DONE, LEFT, NO_MEDIUM, NO_MEMORY, USAGE};
+pub use statuses::{DEVICE, DONE, LEFT, NO_MEMORY, USAGE};
 pub use system_words::{without_number, words_of};

@@ -14,6 +14,3 @@ pub const DEVICE: u8 = 3;
 
 /// Memory was refused.
 pub const NO_MEMORY: u8 = 4;
-
-/// The number by which the system says that a drive has no medium (ENOMEDIUM): so it is at the folder of a disk that isn't mounted.
-pub const NO_MEDIUM: i32 = 123;

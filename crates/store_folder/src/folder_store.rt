@@ -147,6 +147,7 @@ impl<'a, F: Folder> FolderStore<'a, F> {
         let alloc = self.rt.alloc();
         let site = self.site;
         let name = self.site.name_of(self.rt.alloc(), stripe, place)?;
+        site.refuse_unmounted(name.as_str())?;
         refuse_linked_in(alloc, &self.files, site.target, name.as_str(), site.links)?;
         let named = path_in(alloc, site.target, name.as_str())?;
         match site.links {
@@ -156,8 +157,7 @@ impl<'a, F: Folder> FolderStore<'a, F> {
     }
 
     /// Gives a fragment its name, if nothing is there, and else discards it. Whenever that ends, each path but temporary ones has what it
-    /// had, or, if it had nothing and is the fragment's, all the bytes of the file, which was put on the disk before. If it got its name,
-    /// `sync_names` puts that on the disk.
+    /// had, or, if it had nothing and is the fragment's, all the bytes of the file, which is on the disk; `sync_names` puts the name there.
     pub fn place_fragment(
         &mut self,
         file: UnfinishedFile<F::New>,

@@ -35,7 +35,7 @@ pub use placing::{
 };
 pub use regular::{RegularFile, is_named, open_as, open_regular};
 pub use separate::{SeparateFile, SeparateStore};
-pub use site::Site;
+pub use site::{NO_MEDIUM, Site};
 pub use store_names::{
     DESCRIPTION, KEPT, Layout, Part, Pattern, PatternFault, description_names,
     first_description_name, is_description_name, is_folder_of, is_left_by, is_of_runs, lock_name,

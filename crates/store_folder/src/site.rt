@@ -7,8 +7,11 @@ use crate::links::Links;
 use lrc_code::{Code, Place};
 use std::alloc::{AllocError, Global};
 use std::io::{self, ErrorKind};
-use store_names::Pattern;
+use store_names::{Pattern, folder_in};
 use store_records::{Digest, Sums};
+
+/// The number by which the system says that a drive has no medium (ENOMEDIUM): so it is at the folder of a disk that isn't mounted.
+pub const NO_MEDIUM: i32 = 123;
 
 /// Where a store is, and how its fragments are named.
 #[derive(Clone, Copy)]
@@ -23,9 +26,22 @@ pub struct Site<'a> {
     /// What the names of unfinished files have before their digits, so that those of one part of a store are known.
     pub tag: &'a str,
     pub links: Links,
+    /// The folders of the store at which no disk is mounted, and into which nothing is to be written.
+    pub unmounted: &'a [String],
 }
 
 impl Site<'_> {
+    /// Refuses to write under a name whose folder is one at which no disk is mounted.
+    pub fn refuse_unmounted(&self, name: &str) -> io::Result<()> {
+        let inside = folder_in(name);
+        for folder in self.unmounted {
+            if folder.as_str() == inside {
+                return Err(io::Error::from_raw_os_error(NO_MEDIUM));
+            }
+        }
+        Ok(())
+    }
+
     /// The name of a stripe's fragment at a place.
     pub(crate) fn name_of(&self, alloc: Global, stripe: &str, place: Place) -> io::Result<String>
         ensures { IfOk result (λ name. IsNameOf self.now.pattern self.now.code stripe.now place (string_bytes name)) }

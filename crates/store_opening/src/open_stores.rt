@@ -335,6 +335,7 @@ impl OpenStore {
             sums: self.sums.as_ref(),
             tag: "",
             links: opening.links,
+            unmounted: self.unmounted.as_slice(),
         }
     }
 }

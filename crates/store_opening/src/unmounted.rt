@@ -4,8 +4,8 @@ use lrc_code::{Code, PlaceSet};
 use std::alloc::{AllocError, Global};
 use std::fs;
 use std::os::unix::fs::MetadataExt;
-use store_faults::{NO_MEDIUM, StoreFault, say};
-use store_folder::{Found, Links, Pattern, look_at, path_in};
+use store_faults::{StoreFault, say};
+use store_folder::{Found, Links, NO_MEDIUM, Pattern, look_at, path_in};
 use store_listing::StoreStripes;
 use store_names::{disk_folders, folder_in};
 

@@ -33,8 +33,6 @@ pub struct DescribedStripe<'a> {
     pub name: &'a str,
     /// How many bytes each fragment has. To name copies (`CopyWork::Name`) it isn't needed.
     pub length: usize,
-    /// The folders of the store into which nothing is to be written, since no disk is mounted there.
-    pub unmounted: &'a [String],
 }
 
 /// Looks at the copies of a stripe's description, and makes what is lost of them if that is asked for. If no copy is believed, and they
@@ -181,6 +179,7 @@ fn make(
     like: Option<&Rights>,
 ) -> io::Result<Placed> {
     let alloc = rt.alloc();
+    site.refuse_unmounted(name)?;
     refuse_linked_folders(rt, site.target, name, site.links)?;
     let path = path_in(alloc, site.target, name)?;
     let path = path.as_str();

@@ -105,7 +105,6 @@ fn known_of(
     let stripe = DescribedStripe {
         name: stripe.name,
         length: 0,
-        unmounted: &[],
     };
     let found = tend_descriptions(rt, site, &stripe, CopyWork::Name)?;
     let is_unread = say_unread(rt, found.findings.as_slice())?;

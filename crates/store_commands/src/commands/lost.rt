@@ -166,7 +166,6 @@ fn say_descriptions(
     let described = DescribedStripe {
         name: stripe.name,
         length: 0,
-        unmounted: &[],
     };
     let descriptions = tend_descriptions(rt, site, &described, CopyWork::Name)?;
     for finding in &descriptions.findings {

@@ -5,11 +5,10 @@ use sha2::{Digest as _, Sha256};
 use std::alloc::AllocError;
 use std::fs;
 use std::io::{self, ErrorKind};
-use store_faults::{Copies, CopyState, FoundCopy, NO_MEDIUM};
+use store_faults::{Copies, CopyState, FoundCopy};
 use store_folder::{
     Site, description_names, first_description_name, look_at, path_in, read_description,
 };
-use store_names::folder_in;
 
 /// The copies of a stripe's description that are there, or should be.
 #[derive(Drop)]
@@ -38,10 +37,10 @@ impl Seen {
             seen.add(rt, site, name, true)?;
         }
         for copy in seen.copies.all.iter_mut() {
-            let inside = folder_in(copy.name.as_str());
-            let is_in = |folder: &String| { folder.as_str() == inside };
-            if matches!(copy.state, CopyState::Absent) && stripe.unmounted.iter().any(is_in) {
-                copy.state = CopyState::Unread(io::Error::from_raw_os_error(NO_MEDIUM));
+            if matches!(copy.state, CopyState::Absent) {
+                if let Err(error) = site.refuse_unmounted(copy.name.as_str()) {
+                    copy.state = CopyState::Unread(error);
+                }
             }
         }
         let first = first_description_name(alloc, stripe.name)?;

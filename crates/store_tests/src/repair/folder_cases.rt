@@ -18,6 +18,7 @@ const SITE: Site<'static> = Site {
     sums: None,
     tag: "",
     links: Links::NotFollowed,
+    unmounted: &[],
 };
 
 /// The paths of its fragments under their names and under their second names.

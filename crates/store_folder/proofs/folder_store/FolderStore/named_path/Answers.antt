@@ -7,6 +7,6 @@ returns-in-NotFollowed g c = λ _.
     let site = c.args.self.now.site in (
       _,
       c.in_ok-named.ensures,
-      subst (IsNameOf site.pattern site.code c.args.stripe.now c.args.place) (sym c.as_str-2.ensures.value)
+      subst (IsNameOf site.pattern site.code c.args.stripe.now c.args.place) (sym c.as_str-3.ensures.value)
           c.in_ok-name.ensures,
     )
