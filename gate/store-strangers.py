@@ -1191,6 +1191,23 @@ def test_files_that_may_not_be_read(place, choose):
     hold(unread == [f"rebuild-store: a.{ending}: can't be read: Permission denied" for ending in ("file", "file.copy")], said)
 
 
+def test_unknown_beside_what_is_not_determined(place, choose):
+    """A fragment that can't be looked at is said, with the status of a device, though others can't be determined, or lengths differ."""
+    store = place / "several"
+    lay(store, choose)
+    for name in ("x0", "x1", "x2", "px", "y0"):
+        (store / f"s.{name}").unlink()
+    (store / "s.x0").symlink_to("s.x0")
+    said = "s.x0: can't be looked at: Too many levels of symbolic links\n"
+    for words in (["repair", "-n"], ["repair"], ["repair", "--reads", "all"], ["scrub"], ["lost"]):
+        hold(said in run(*words, "--follow-links", store, status=3), f"{words}: it isn't said")
+    for name in ("y1", "y2", "py"):
+        os.truncate(store / f"s.{name}", 300)
+    for words in (["repair", "-n"], ["repair"], ["scrub"], ["lost"]):
+        found = run(*words, "--follow-links", store, status=3)
+        hold(said in found and "300 bytes" in found, f"{words}: {found}")
+
+
 def test_fragments_that_fail_while_they_are_read(place, choose):
     """A fragment that a disk fails to give is said as that, and not as one that differs from its digest."""
     calls, store, tried = Calls(place), place / "failing", set()

@@ -16,7 +16,7 @@ use crate::length_groups::{LengthGroup, Lengths};
 use crate::losses::are_checked;
 use crate::mending::{MendFault, Survivors};
 use crate::opening::open_survivors;
-use crate::outcomes::{Finding, Reason, note, note_no_survivor};
+use crate::outcomes::{Finding, Reason, note, note_no_survivor, note_unknown};
 use lrc_code::{Code, Place, PlaceSet};
 use std::alloc::{AllocError, Global};
 use stores::{Found, Store, Stripe, StripeFiles, is_in_common, nth_place};
@@ -114,7 +114,7 @@ fn length_at(code: Code, files: &StripeFiles, place: Place) -> Option<u64>
     }
 }
 
-/// How many bytes each fragment of a stripe has; where that isn't known, why is noted.
+/// How many bytes each fragment of a stripe has; where that isn't known, why is noted, and which fragments can't be looked at.
 pub(crate) fn length_or_note<S: Store>(
     alloc: Global,
     store: &S,
@@ -132,6 +132,7 @@ pub(crate) fn length_or_note<S: Store>(
         StripeLength::NoFiles => note_no_survivor(code, stripe, findings)?,
         StripeLength::Undecided(lengths) => {
             note(findings, None, Reason::LengthsDiffer(lengths))?;
+            note_unknown(code, stripe, findings)?;
         }
     }
     Ok(None)

@@ -23,7 +23,7 @@ use crate::outcomes::{Finding, Reason, note};
 use crate::settings::{Reads, Repair};
 use lrc_code::{Place, PlaceSet};
 use std::alloc::{AllocError, Global};
-use stores::{Fragment, Store, Stripe};
+use stores::{Found, Fragment, Store, Stripe};
 
 /// Rebuilt fragments that have no names yet: the survivors that they are made from, whether these are checked, and a file for each place.
 #[derive(Drop)]
@@ -140,7 +140,7 @@ pub(crate) fn make_from<S: Store>(
         files.as_mut_slice(),
     ) {
         Ok(true) => {
-            note_all(lost.several.as_slice(), findings)?;
+            note_all(stripe, lost.several.as_slice(), findings)?;
             let set = opened.set;
             let is_checked = are_checked(code, set, opened.length);
             Ok(Attempt::Made(Made {
@@ -179,15 +179,32 @@ pub(crate) fn to_be_rebuilt<F>(repair: &Repair, stripe: &Stripe<'_>, opened: &Op
     }
 }
 
-/// Notes the places whose fragments the survivors don't determine.
-pub(crate) fn note_all(places: &[Place], findings: &mut Vec<Finding>) -> Result<(), AllocError>
+/// Notes the places of a stripe whose fragments the survivors don't determine.
+pub(crate) fn note_all(
+    stripe: &Stripe<'_>,
+    places: &[Place],
+    findings: &mut Vec<Finding>,
+) -> Result<(), AllocError>
     ensures named { OnOk result (All (Contains (named findings.new.items)) places.now) }
     ensures stay { OnOk result (NamesStay findings.old.items findings.new.items) }
 {
     for place in places {
-        note(findings, Some(*place), Reason::Several)?;
+        note(
+            findings,
+            Some(*place),
+            reason_of_several(stripe.files.at(*place)),
+        )?;
     }
     Ok(())
+}
+
+/// Why a fragment that the survivors don't determine isn't there: the system's error where it can't be looked at, which may be all that
+/// keeps it from being read.
+fn reason_of_several(found: Found) -> Reason {
+    match found {
+        Found::Unknown { .. } => Reason::of(found),
+        _ => Reason::Several,
+    }
 }
 
 /// New files for fragments at these places, if they can be made.

@@ -93,7 +93,7 @@ fn planned<F>(
     let among = to_be_rebuilt(repair, stripe, opened);
     let lost = lost_places(alloc, code, opened.set, among)?;
     let mut findings = findings;
-    note_all(lost.several.as_slice(), &mut findings)?;
+    note_all(stripe, lost.several.as_slice(), &mut findings)?;
     Ok(StripeOutcome {
         length: opened.length,
         survivors: opened.set,

@@ -3,6 +3,8 @@ ghost use Rattle.std.specs.Prelude.{◌≡◌, ◌<◌, ◌⊎◌, false, true};
 
 use crate::commands::opening_of;
 use crate::output::{say_all, say_alone};
+use lrc_code::Place;
+use std::alloc::AllocError;
 use std::io::{self, BufWriter, Write};
 use store_arguments::LostOptions;
 use store_faults::{DEVICE, DONE, FileFault, LEFT, device, say};
@@ -109,9 +111,23 @@ fn requests_for<'a>(
         Some(length) => requests_of(rt, site, stripe, length, form, counts),
         None => {
             counts.is_left = true;
+            say_unknown(rt, site, stripe, site.code.places(), counts)?;
             Ok(String::new(rt.alloc()))
         }
     }
+}
+
+/// Says which of a stripe's fragments at some places can't be looked at, and notes that there are some.
+fn say_unknown(
+    rt: &HostRuntime,
+    site: &Site<'_>,
+    stripe: &Stripe<'_>,
+    places: &[Place],
+    counts: &mut Counts,
+) -> Result<(), AllocError> {
+    let unknown = unknown_lines(rt.alloc(), site, stripe, places)?;
+    counts.is_device = counts.is_device || !unknown.is_empty();
+    say_all(rt, unknown)
 }
 
 /// The exit status.
@@ -143,9 +159,7 @@ fn requests_of(
     let places = places.as_slice();
     let count = places.len() as u64;
     counts.lost = counts.lost.saturating_add(count);
-    let unknown = unknown_lines(alloc, site, stripe, places)?;
-    counts.is_device = counts.is_device || !unknown.is_empty();
-    say_all(rt, unknown)?;
+    say_unknown(rt, site, stripe, places, counts)?;
     match request_lines(alloc, site.code, stripe, length, places, form)? {
         Some(lines) => Ok(lines),
         None => {
