@@ -1208,6 +1208,15 @@ def test_unknown_beside_what_is_not_determined(place, choose):
         hold(said in found and "300 bytes" in found, f"{words}: {found}")
 
 
+def test_place_of_another_code(place, choose):
+    """A file at a place of the other code, of another length, costs the stripe beside it nothing."""
+    store = place / "other-place"
+    lay(store, choose, names="stu", length=30)
+    (store / "s.x5").write_bytes(b"other")
+    said = run("list", store, status=0)
+    hold("s.x5: is named as a fragment, and of no stripe\n" in said and "3 files; not whole: 0\n" in said, said)
+
+
 def test_fragments_that_fail_while_they_are_read(place, choose):
     """A fragment that a disk fails to give is said as that, and not as one that differs from its digest."""
     calls, store, tried = Calls(place), place / "failing", set()

@@ -120,7 +120,8 @@ impl StoreStripes {
         }
     }
 
-    /// Takes the files of a name for those of a stripe, or each for one that is alone.
+    /// Takes the files of a name for those of a stripe, or each for one that is alone. A stripe has none at a place of another code, whose
+    /// length would be taken for one of its own.
     fn settle(
         &mut self,
         alloc: Global,
@@ -130,15 +131,18 @@ impl StoreStripes {
         is_expected: bool,
     ) -> Result<(), AllocError> {
         let is_stripe = is_expected || are_stripe(&found, code);
+        let mut own = StripeFiles::new();
         for place in &Place::ALL {
-            if found.at(*place) != Found::Absent && !(is_stripe && code.has(*place)) {
+            let place = *place;
+            if is_stripe && code.has(place) {
+                own.found[place.index()] = found.at(place);
+            } else if found.at(place) != Found::Absent {
                 let stripe = String::from_str(alloc, name.as_str())?;
-                let place = *place;
                 self.alone.push(Alone { stripe, place })?;
             }
         }
         if is_stripe {
-            self.files.insert(name, found)?;
+            self.files.insert(name, own)?;
         }
         Ok(())
     }
