@@ -1217,6 +1217,29 @@ def test_place_of_another_code(place, choose):
     hold("s.x5: is named as a fragment, and of no stripe\n" in said and "3 files; not whole: 0\n" in said, said)
 
 
+def lay_file(place, choose, data=None):
+    """A store of one file, and its source."""
+    store, source = place / "store", place / "a"
+    source.write_bytes(choose.randbytes(5_000) if data is None else data)
+    run("encode", store, source, status=0)
+    return store
+
+
+def test_description_elsewhere_again(place, choose):
+    """A repair into another folder may be run again: a description that it made there is as good as a fragment."""
+    store, to = lay_file(place, choose), place / "to"
+    to.mkdir()
+    text = (store / "a.file").read_bytes()
+    for name in ("a.file", "a.x0"):
+        (store / name).unlink()
+    for _turn in range(2):
+        run("repair", store, "--to", to, status=0)
+        hold((to / "a.file").read_bytes() == text and sorted(there(to)) == ["a.file", "a.x0"], f"{sorted(there(to))}")
+    (to / "a.file").write_bytes(b"other")
+    said = run("repair", store, "--to", to, status=1)
+    hold("a.file: has come meanwhile" in said and (to / "a.file").read_bytes() == b"other", said)
+
+
 def test_fragments_that_fail_while_they_are_read(place, choose):
     """A fragment that a disk fails to give is said as that, and not as one that differs from its digest."""
     calls, store, tried = Calls(place), place / "failing", set()

@@ -11,8 +11,8 @@ use std::alloc::AllocError;
 use std::io::{self, ErrorKind};
 use store_faults::{Copies, CopyFinding, CopyReason, Descriptions, FoundCopy};
 use store_folder::{
-    Described, NewFile, Placed, Site, SystemFolder, create_private, exchange_new, folder_of,
-    path_in, place_new, refuse_linked_folders,
+    Described, Links, NewFile, Placed, Site, SystemFolder, create_private, exchange_new, folder_of,
+    path_in, place_new, read_description, refuse_linked_folders,
 };
 use store_repair::NewFragment;
 
@@ -193,10 +193,22 @@ fn make(
     let placed = if replaces && site.target == site.folder {
         exchange_new(rt, files, file, path)?
     } else {
-        place_new(files, file, path)?
+        match place_new(files, file, path)? {
+            Placed::IsThere if says(rt, path, described)? => Placed::Placed,
+            placed => placed,
+        }
     };
     files.sync_folder(folder_of(path))?;
     Ok(placed)
+}
+
+/// Whether a regular file at a path says this of a file, as one does that an earlier run has made.
+fn says(rt: &HostRuntime, path: &str, described: &Described) -> Result<bool, AllocError> {
+    match read_description(rt, path, Links::NotFollowed) {
+        Ok(there) => Ok(there.as_ref() == Some(described)),
+        Err(error) if error.kind() == ErrorKind::OutOfMemory => Err(AllocError),
+        Err(_) => Ok(false),
+    }
 }
 
 /// Writes the text of a copy, and gives the file the owner and the rights of another file, if there is one.
