@@ -1240,6 +1240,20 @@ def test_description_elsewhere_again(place, choose):
     hold("a.file: has come meanwhile" in said and (to / "a.file").read_bytes() == b"other", said)
 
 
+def test_description_of_a_killed_part(place, choose):
+    """What a killed run of a part leaves of a description is removed by the part's next run."""
+    store, calls = lay_file(place, choose), Calls(place)
+    whole = there(store)
+    command = [PROGRAM, "repair", "--part", "1/1", store]
+    (store / "a.file").unlink()
+    number = calls.run(command).kinds.index("link") + 1
+    (store / "a.file").unlink()
+    calls.run(command, number, "kill")
+    hold(set(there(store)) - set(whole) > {".rebuild-store-part-1-of-1"}, "nothing was left")
+    said = run(*command[1:], status=0)
+    hold(there(store) == whole, f"{sorted(set(there(store)) - set(whole))}: {said}")
+
+
 def test_fragments_that_fail_while_they_are_read(place, choose):
     """A fragment that a disk fails to give is said as that, and not as one that differs from its digest."""
     calls, store, tried = Calls(place), place / "failing", set()

@@ -31,7 +31,8 @@ pub use giving::give_name;
 pub use laws::goes_on;
 pub use links::{Links, followed, look_at, refuse_linked_folders};
 pub use placing::{
-    NewFile, create_new, create_private, discard_new, place_again, place_new, sync_folder,
+    NewFile, create_new, create_private, create_tagged, discard_new, place_again, place_new,
+    sync_folder,
 };
 pub use regular::{RegularFile, is_named, open_as, open_regular};
 pub use separate::{SeparateFile, SeparateStore};

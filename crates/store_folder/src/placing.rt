@@ -106,8 +106,21 @@ pub fn create_private<F: Folder>(
     ensures whenever { KeepsEach (F.calls files.old) (F.calls files.new) }
     ensures empty { IfOk result (λ new. content_of new ≡ Some []) }
 {
+    create_tagged(rt, files, folder, "")
+}
+
+/// The same with a tag in its temporary name, by which the next run of the same part of a store knows it.
+pub fn create_tagged<F: Folder>(
+    rt: &HostRuntime,
+    files: &mut F,
+    folder: &str,
+    tag: &str,
+) -> io::Result<NewFile<F::New>>
+    ensures whenever { KeepsEach (F.calls files.old) (F.calls files.new) }
+    ensures empty { IfOk result (λ new. content_of new ≡ Some []) }
+{
     Ok(NewFile {
-        unfinished: create_unfinished(rt, files, folder, "", PRIVATE)?,
+        unfinished: create_unfinished(rt, files, folder, tag, PRIVATE)?,
     })
 }
 

@@ -11,7 +11,7 @@ use std::alloc::AllocError;
 use std::io::{self, ErrorKind};
 use store_faults::{Copies, CopyFinding, CopyReason, Descriptions, FoundCopy};
 use store_folder::{
-    Described, Links, NewFile, Placed, Site, SystemFolder, create_private, exchange_new, folder_of,
+    Described, Links, NewFile, Placed, Site, SystemFolder, create_tagged, exchange_new, folder_of,
     path_in, place_new, read_description, refuse_linked_folders,
 };
 use store_repair::NewFragment;
@@ -185,7 +185,7 @@ fn make(
     let path = path.as_str();
     let text = described.text(alloc)?;
     let files = &mut SystemFolder::new(rt);
-    let mut file = create_private(rt, files, folder_of(path))?;
+    let mut file = create_tagged(rt, files, folder_of(path), site.tag)?;
     if let Err(error) = fill(&mut file, text.as_bytes(), like) {
         file.discard(rt)?;
         return Err(error);
