@@ -1254,6 +1254,32 @@ def test_description_of_a_killed_part(place, choose):
     hold(there(store) == whole, f"{sorted(set(there(store)) - set(whole))}: {said}")
 
 
+def test_description_behind_a_link(place, choose):
+    """If links are followed, a description is made again where its link leads, and a damaged one is replaced and kept there."""
+    store, outside, calls = lay_file(place, choose), place / "outside", Calls(place)
+    outside.mkdir()
+    text = (store / "a.file").read_bytes()
+    (store / "a.file").unlink()
+    (store / "a.file").symlink_to(outside / "described")
+    command = [PROGRAM, "repair", store, "--follow-links"]
+    number = calls.run(command).kinds.index("link") + 1
+    hold(there(outside) == {"described": text}, "nothing was made where the link leads")
+    (outside / "described").unlink()
+    calls.run(command, number, "kill")
+    hold(len(there(outside)) == 1, f"{sorted(there(outside))}")
+    run(*command[1:], status=0)
+    hold(there(outside) == {"described": text}, f"{sorted(there(outside))}")
+    (outside / "described").write_bytes(b"other")
+    (store / "SHA256SUMS").write_text(f"{digest(text)}  a.file\n")
+    run(*command[1:], "--replace-damaged", status=0)
+    hold(there(outside) == {"described": text, "described.damaged": b"other"}, f"{sorted(there(outside))}")
+    hold((store / "a.file").is_symlink() and not (store / "a.file.damaged").exists(), "the link was replaced")
+    if is_root():
+        (outside / "described").unlink()
+        outside.chmod(0o777)
+        hold("--trust-writers" in run(*command[1:], status=2), "root made a file where others may write")
+
+
 def test_fragments_that_fail_while_they_are_read(place, choose):
     """A fragment that a disk fails to give is said as that, and not as one that differs from its digest."""
     calls, store, tried = Calls(place), place / "failing", set()

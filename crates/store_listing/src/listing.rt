@@ -332,7 +332,7 @@ impl Listing {
     }
 
     /// What the link at a path leads to; its folder is noted, and who may write there.
-    fn look_behind(
+    pub(crate) fn look_behind(
         &mut self,
         rt: &HostRuntime,
         path: String,

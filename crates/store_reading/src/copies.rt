@@ -12,8 +12,9 @@ use std::io::{self, ErrorKind};
 use store_faults::{Copies, CopyFinding, CopyReason, Descriptions, FoundCopy};
 use store_folder::{
     Described, Links, NewFile, Placed, Site, SystemFolder, create_tagged, exchange_new, folder_of,
-    path_in, place_new, read_description, refuse_linked_folders,
+    followed, path_in, place_new, read_description, refuse_linked_folders,
 };
+use store_names::is_free;
 use store_repair::NewFragment;
 
 /// What is done with copies that aren't as they should be.
@@ -169,7 +170,8 @@ fn made(
     }
 }
 
-/// Makes a copy, with the owner and the rights of another one, or else of the stripe's other files.
+/// Makes a copy, with the owner and the rights of another one, or else of the stripe's other files. If links are followed, it is made where
+/// a link leads, as fragments are.
 fn make(
     rt: &HostRuntime,
     site: &Site<'_>,
@@ -181,8 +183,14 @@ fn make(
     let alloc = rt.alloc();
     site.refuse_unmounted(name)?;
     refuse_linked_folders(rt, site.target, name, site.links)?;
-    let path = path_in(alloc, site.target, name)?;
+    let mut path = path_in(alloc, site.target, name)?;
+    if site.links == Links::Followed {
+        path = followed(rt, path)?;
+    }
     let path = path.as_str();
+    if !is_free(path) {
+        return Err(io::Error::from(ErrorKind::InvalidInput));
+    }
     let text = described.text(alloc)?;
     let files = &mut SystemFolder::new(rt);
     let mut file = create_tagged(rt, files, folder_of(path), site.tag)?;
