@@ -1280,6 +1280,22 @@ def test_description_behind_a_link(place, choose):
         hold("--trust-writers" in run(*command[1:], status=2), "root made a file where others may write")
 
 
+def test_folder_that_is_not_synced(place, choose):
+    """A folder whose names can't be written to its disk keeps those of no other folder from being written."""
+    store, calls = place / "synced", Calls(place)
+    lay_disks(store, choose, names=("a",))
+    lost = [store / "disk1/a", store / "disk4/a"]
+    command = [PROGRAM, "repair", "-j", "1", *DISKS, store]
+    for path in lost:
+        path.unlink()
+    kinds = calls.run(command).kinds
+    synced = [number for number, kind in enumerate(kinds, 1) if kind == "sync"]
+    for path in lost:
+        path.unlink()
+    ended = calls.run(command, synced[-2], errno.EIO)
+    hold(ended.status == 3 and pathlib.Path(ended.paths[0]).is_dir() and ended.kinds.count("sync") == len(synced), ended.text())
+
+
 def test_fragments_that_fail_while_they_are_read(place, choose):
     """A fragment that a disk fails to give is said as that, and not as one that differs from its digest."""
     calls, store, tried = Calls(place), place / "failing", set()

@@ -38,8 +38,23 @@ impl Touched {
         Ok(())
     }
 
-    /// Writes the names in these folders to the disk.
+    /// Writes the names in these folders to the disk. One that can't be written keeps no other from being written.
     pub fn sync<F: Folder>(&mut self, files: &mut F) -> Result<(), NameFault>
+        ensures whenever { KeepsEach (F.calls files.old) (F.calls files.new) }
+        ensures done { OnOk result ((path bytes : List ℕ) → is_temporary path ≡ false
+            → IsDue self.old.folders.items (F.calls files.old) path bytes → IsOnDisk path bytes (F.calls files.new)) }
+    {
+        match self.sync_until_fault(files) {
+            Ok(()) => Ok(()),
+            Err(fault) => {
+                self.sync_rest(files);
+                Err(fault)
+            }
+        }
+    }
+
+    /// The same up to the first folder that can't be written.
+    fn sync_until_fault<F: Folder>(&mut self, files: &mut F) -> Result<(), NameFault>
         ensures whenever { KeepsEach (F.calls files.old) (F.calls files.new) }
         ensures done { OnOk result ((path bytes : List ℕ) → is_temporary path ≡ false
             → IsDue self.old.folders.items (F.calls files.old) path bytes → IsOnDisk path bytes (F.calls files.new)) }
@@ -48,6 +63,15 @@ impl Touched {
             sync_names_of(files, name)?;
         }
         Ok(())
+    }
+
+    /// Writes what is left after a fault, which is said.
+    fn sync_rest<F: Folder>(&mut self, files: &mut F)
+        ensures { KeepsEach (F.calls files.old) (F.calls files.new) }
+    {
+        'folders: while let Some(name) = self.folders.pop() {
+            let _ = sync_names_of(files, name);
+        }
     }
 }
 

@@ -2,7 +2,7 @@ use Rattle.std.proofs.Common.{◌≡◌, ℕ, List, false, vec_len}
 use Rattle.store_folder.specs.Done.{IsDue}
 use Rattle.store_folder.specs.Kept.{KeepsEach}
 use Rattle.store_folder.specs.Temporary.{is_temporary}
-use Rattle.store_folder.proofs.syncing.Touched.sync.Given as goal
+use Rattle.store_folder.proofs.syncing.Touched.sync_until_fault.Given as goal
 
 abbrev pub invariant-folders : goal.invariant-folders
 invariant-folders g l = let calls = g.F.Folder.calls in record {
