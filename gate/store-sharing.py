@@ -241,17 +241,19 @@ def try_locks(kind, one, _other, choose):
 
 
 def try_unwritten_lock(one, choose, lock, left):
-    """A run that can't write into its lock who it is ends, and takes away the file that it has made for it, but none that was there."""
+    """A run that can't write into its lock who it is ends, and takes the lock away: no other gets past one that names no run."""
     calls, command = Calls(one), [PROGRAM, "repair", one / "store", "--part", "1/1"]
     for text in ("", left):
-        lay(one / "store", choose)
-        number = calls.run(command).kinds.index("write") + 1
-        lay(one / "store", choose)
-        if text:
-            lock.write_text(text)
-        ended = calls.run(command, number, errno.ENOSPC)
-        check(ended.status == 3 and ended.paths[0] == str(lock), f"{ended.paths}: {ended.text()}")
-        check(lock.exists() == bool(text), f"after a lock couldn't be written, in which {text!r} was: {runs_there(one / 'store')}")
+        number = 0
+        for _turn in range(2):
+            lay(one / "store", choose)
+            if text:
+                lock.write_text(text)
+            ended = calls.run(command, number, errno.ENOSPC)
+            number = number or ended.kinds.index("write") + 1
+        check(ended.status == 3 and ended.paths[0] == str(lock) and ended.kind == "write", f"{ended.paths}: {ended.text()}")
+        check(not lock.exists(), f"after a lock couldn't be written, in which {text!r} was: {runs_there(one / 'store')}")
+        run(*command[1:], status=0)
 
 
 def try_own_locks(kind, one, _other, choose):

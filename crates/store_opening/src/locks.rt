@@ -258,19 +258,18 @@ fn owned(
     match write_run(rt.alloc(), &mut file, sharing.run()) {
         Ok(()) => Ok(file),
         Err(error) => {
-            if is_new {
-                let _ = fs::remove_file(rt, path);
-            }
+            // It is this run's, also if one that has ended had it before: no other run gets past a lock that names no run.
+            let _ = fs::remove_file(rt, path);
             Err(device_fault(String::from_str(rt.alloc(), path)?, error))
         }
     }
 }
 
-/// Writes a run into the file of its lock, in place of what is there.
+/// Writes a run into the file of its lock, over what is there: a full disk may have no room for what was taken away before.
 fn write_run(alloc: Global, file: &mut File, run: &str) -> io::Result<()> {
     let line = format!(in alloc; "{run}\n")?;
-    file.set_len(0)?;
-    file.write_all(line.as_bytes())
+    file.write_all(line.as_bytes())?;
+    file.set_len(line.len() as u64)
 }
 
 /// The file of a lock that is open, and whether this run has made it.
