@@ -1296,6 +1296,20 @@ def test_folder_that_is_not_synced(place, choose):
     hold(ended.status == 3 and pathlib.Path(ended.paths[0]).is_dir() and ended.kinds.count("sync") == len(synced), ended.text())
 
 
+def test_folder_above_a_disk(place, choose):
+    """A disk is said as missing whose upper folder is gone, as one is whose own folder is."""
+    store, names = place / "above", ["--code", "6-2-2", "--names", "host{shard}/disk/{stripe}"]
+    (place / "a").write_bytes(choose.randbytes(500))
+    run("encode", "--make-folders", *names, store, place / "a", status=0)
+    shutil.rmtree(store / "host3")
+    (store / "host5/disk/a").unlink()
+    (store / "host5/disk/a.file").unlink()
+    (store / "host5/disk").rmdir()
+    said = run("scrub", *names, store, status=1)
+    for folder in ("host3", "host5/disk"):
+        hold(f"rebuild-store: {store}/{folder}: No such file or directory: what should be in it counts as lost\n" in said, said)
+
+
 def test_fragments_that_fail_while_they_are_read(place, choose):
     """A fragment that a disk fails to give is said as that, and not as one that differs from its digest."""
     calls, store, tried = Calls(place), place / "failing", set()

@@ -1,10 +1,11 @@
 //! Listing a folder, and what of it couldn't be listed.
 use lrc_code::Code;
-use std::alloc::AllocError;
+use std::alloc::{AllocError, Global};
 use std::io::ErrorKind;
 use store_faults::{StoreFault, device_fault, say, words_of};
 use store_folder::{Pattern, is_folder_of};
 use store_listing::{Listing, Unlisted, Wanted, list};
+use store_names::disk_folders;
 
 /// Lists a folder, and says how many links weren't followed, and the first of them.
 pub(crate) fn listed(
@@ -32,7 +33,7 @@ pub(crate) fn say_unlisted(
     for Unlisted { name, path, error } in &listing.unlisted {
         let kind = error.kind();
         let is_gone = kind == ErrorKind::NotFound || kind == ErrorKind::NotADirectory;
-        if is_gone && !is_folder_of(rt.alloc(), pattern, code, "a", name.as_str())? {
+        if is_gone && !is_expected(rt.alloc(), pattern, code, name.as_str())? {
             continue;
         }
         is_there = is_there || !is_gone;
@@ -45,6 +46,24 @@ pub(crate) fn say_unlisted(
         );
     }
     Ok(is_there)
+}
+
+/// Whether a folder of disks has to be there by the pattern, or one that such folders are in.
+fn is_expected(
+    alloc: Global,
+    pattern: &Pattern<'_>,
+    code: Code,
+    folder: &str,
+) -> Result<bool, AllocError> {
+    let Some(disks) = disk_folders(alloc, pattern, code)? else {
+        return is_folder_of(alloc, pattern, code, "a", folder);
+    };
+    Ok(
+        disks.iter().any(|disk| {
+            let rest = disk.as_str().strip_prefix(folder);
+            rest.is_some_and(|rest| rest.is_empty() || rest.starts_with('/'))
+        }),
+    )
 }
 
 /// Says how many links of a store weren't followed.
