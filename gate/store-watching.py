@@ -375,6 +375,37 @@ def test_counters_of_a_run_that_fails(place, choose):
             check(list(found) == ENDED and found["status"] == 3, f"{command}: {found}")
 
 
+def test_counters_of_lost_descriptions(place, choose):
+    """What is lost of descriptions counts as what is lost of fragments does."""
+    store, file = place / "s", place / "counters"
+    store.mkdir()
+    (place / "a").write_bytes(choose.randbytes(500))
+    run("encode", store, place / "a")
+    for name in ("a.file", "a.x0"):
+        (store / name).unlink()
+    run("scrub", "--progress", file, store, status=1)
+    check(counters(file.read_text(), "scrub", str(store))["left"] == 2, file.read_text())
+    run("repair", "--progress", file, store)
+    check(counters(file.read_text(), "repair", str(store))["left"] == 0, file.read_text())
+
+
+def test_counters_of_a_refused_run(place, choose):
+    """A run that is refused when its store is opened says its status in place of the counters of an earlier run, and of those alone."""
+    store, file = place / "s", place / "counters"
+    make(store, choose, ["a"], 10)
+    for command in ("repair", "scrub"):
+        other = place / "other"
+        other.write_bytes(b"rebuild_store_units and more")
+        run(command, "--progress", file, store)
+        store.rename(place / "away")
+        for path in (file, other, place / "none"):
+            run(command, "--progress", path, store, status=3)
+        (place / "away").rename(store)
+        found = counters(file.read_text(), command, str(store))
+        check(list(found) == ENDED and found["status"] == 3, f"{command}: {found}")
+        check(other.read_bytes() == b"rebuild_store_units and more" and not (place / "none").exists(), f"{command}: others were written")
+
+
 def test_report_beside_rows_that_fail(place, choose):
     """The report is written also if the rows that are printed as they are known can't be."""
     store, report = place / "s", place / "report.csv"

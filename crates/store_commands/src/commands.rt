@@ -11,8 +11,9 @@ use std::alloc::AllocError;
 use std::io;
 use std::sync::Arc;
 use store_arguments::{StoreOptions, TestOptions};
-use store_opening::Opening;
-use store_progress::{Progress, Task};
+use store_faults::FileFault;
+use store_opening::{OpenStore, Opening, open_store};
+use store_progress::{Operation, Progress, Task};
 use store_reports::Results;
 
 /// A store that is opened to be read, or some of its stripes.
@@ -58,6 +59,28 @@ pub(crate) fn counters_of<'a>(
     }
     let progress = Arc::new(rt.alloc(), progress)?;
     Ok(CountersFile::new(test.progress, store, progress))
+}
+
+/// Opens a store for a command. If it is refused, the counters of an earlier run say no longer that all was well.
+pub(crate) fn open_counted(
+    rt: &HostRuntime,
+    operation: Operation,
+    test: &TestOptions<'_>,
+    opening: &Opening<'_>,
+) -> Result<OpenStore, FileFault> {
+    match open_store(rt, opening) {
+        Ok(store) => Ok(store),
+        Err(fault) => {
+            let task = Task {
+                operation,
+                units: 0,
+                bytes: 0,
+                passes: 1,
+            };
+            let counters = counters_of(rt, task, true, test, opening.folder)?;
+            Err(counters.end_refused(rt, FileFault::from(fault)))
+        }
+    }
 }
 
 /// Prints the rows that were held back, and writes those of a report. Says whether all could be written.

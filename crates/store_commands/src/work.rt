@@ -231,6 +231,11 @@ fn take_stripe(
     counters.progress.note(&outcome);
     reads.end(work.units_of(&outcome), bytes);
     let descriptions = descriptions_of(system, stripes, work, stripe, outcome.length)?;
+    if let Some(descriptions) = &descriptions {
+        counters
+            .progress
+            .note_left(descriptions.findings.len() as u64);
+    }
     let done = Done {
         index,
         outcome,

@@ -187,6 +187,11 @@ impl Progress {
         }
     }
 
+    /// Notes findings of no damage that aren't mended, as of the descriptions of a stripe.
+    pub fn note_left(&self, count: u64) {
+        self.others.fetch_add(count, Ordering::SeqCst);
+    }
+
     /// Counts units that are done, of which so many bytes were gone over, and shows the line if it was shown long enough ago.
     pub fn count(&self, rt: &HostRuntime, units: u64, bytes: u64, passed: u64) {
         if self.start.is_none() {

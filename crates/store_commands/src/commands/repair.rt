@@ -1,5 +1,5 @@
 //! The command `repair`.
-use crate::commands::{counters_of, say_worked, test_opening_of};
+use crate::commands::{counters_of, open_counted, say_worked, test_opening_of};
 use crate::output::counters_file::CountersFile;
 use crate::output::row_stream::RowStream;
 use crate::output::{refuse_outputs, say_all, say_alone, say_summary};
@@ -12,10 +12,8 @@ use std::thread::Threads;
 use store_arguments::RepairOptions;
 use store_faults::{DEVICE, FileFault, LEFT, device, say};
 use store_folder::{FolderStore, Part, Site, tag_of_part};
-use store_opening::{
-    Access, OpenStore, Opening, Unmounted, open_store, refuse_other_stores, remove_leftovers,
-};
-use store_progress::{most_file_bytes, refuse_over_limit};
+use store_opening::{Access, OpenStore, Opening, Unmounted, refuse_other_stores, remove_leftovers};
+use store_progress::{Operation, most_file_bytes, refuse_over_limit};
 use store_repair::{Reads, Repair, Stripe};
 use store_reports::{
     Results, RowSource, finding_lines, planned, repaired, status_of, status_of_plan,
@@ -30,7 +28,7 @@ pub fn repair<R: Threads + Sync>(
 ) -> Result<u8, FileFault> {
     refuse_outputs(system, &options.test)?;
     let opening = opening_of(options);
-    let store = open_store(system, &opening)?;
+    let store = open_counted(system, Operation::Repair, &options.test, &opening)?;
     repair_opened(rt, system, options, &opening, &store)
 }
 
@@ -49,6 +47,9 @@ fn repair_opened<R: Threads + Sync>(
         Ok(counters) => counters,
         Err(fault) => return Err(refused(system, store, fault)),
     };
+    if let Err(fault) = refuse_long(system, store.code, stripes.as_slice(), options.dry_run) {
+        return counters.end(system, Err(refused(system, store, fault)));
+    }
     let opened = Opened {
         store: &*store,
         opening: &*opening,
@@ -63,7 +64,7 @@ fn repair_opened<R: Threads + Sync>(
     counters.end(system, ended)
 }
 
-/// The counters of a repair of these stripes, if no fragment that is lost is too long to be made.
+/// The counters of a repair of these stripes.
 fn counters_for<'a>(
     system: &HostRuntime,
     options: &RepairOptions<'a>,
@@ -71,9 +72,6 @@ fn counters_for<'a>(
     store: &OpenStore,
     stripes: &[Stripe<'_>],
 ) -> Result<CountersFile<'a>, FileFault> {
-    if !options.dry_run {
-        refuse_long(system, store.code, stripes)?;
-    }
     let repair = repair_of(store.code, options);
     let task = repair_task(system.alloc(), store, &repair, stripes)?;
     let is_quiet = options.test.quiet || options.dry_run;
@@ -87,8 +85,14 @@ fn refused(rt: &HostRuntime, store: &OpenStore, fault: FileFault) -> FileFault {
 }
 
 /// Refuses stripes of which fragments are lost that are longer than files may get here: the system would end the run at the first of them.
-fn refuse_long(rt: &HostRuntime, code: Code, stripes: &[Stripe<'_>]) -> Result<(), FileFault> {
-    if most_file_bytes(rt).is_none() {
+/// A dry run makes none.
+fn refuse_long(
+    rt: &HostRuntime,
+    code: Code,
+    stripes: &[Stripe<'_>],
+    is_dry: bool,
+) -> Result<(), FileFault> {
+    if is_dry || most_file_bytes(rt).is_none() {
         return Ok(());
     }
     for stripe in stripes {

@@ -1,5 +1,5 @@
 //! The command `scrub`.
-use crate::commands::{counters_of, say_worked, test_opening_of};
+use crate::commands::{counters_of, open_counted, say_worked, test_opening_of};
 use crate::output::row_stream::RowStream;
 use crate::output::{print_line, refuse_outputs, say_alone, say_summary};
 use crate::work::tasks::scrub_task;
@@ -10,7 +10,8 @@ use std::thread::Threads;
 use store_arguments::{ScrubOptions, TestOptions};
 use store_faults::{FileFault, device};
 use store_folder::Site;
-use store_opening::{OpenStore, Opening, open_store};
+use store_opening::{OpenStore, Opening};
+use store_progress::Operation;
 use store_reports::{Results, RowSource, finding_lines, scrubbed, status_of};
 
 /// Tests the stripes of a store, says what isn't as it should be, and gives the exit status.
@@ -22,7 +23,7 @@ pub fn scrub<R: Threads + Sync>(
     let test = &options.test;
     refuse_outputs(system, test)?;
     let opening = test_opening_of(&options.store, test);
-    let store = open_store(system, &opening)?;
+    let store = open_counted(system, Operation::Scrub, test, &opening)?;
     scrub_opened(rt, system, test, &opening, &store)
 }
 

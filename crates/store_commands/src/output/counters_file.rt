@@ -2,9 +2,11 @@
 use crate::output::report_file::write_report;
 use std::alloc::Global;
 use std::io::{self, ErrorKind};
+use std::os::unix::fs::FileExt;
 use std::sync::Arc;
 use std::sync::atomic::{AtomicU64, Ordering};
-use store_faults::{DEVICE, FileFault, say, words_of};
+use store_faults::{DEVICE, FileFault, StoreFault, say, words_of};
+use store_folder::{Links, open_regular};
 use store_progress::{Progress, Turns};
 
 /// The least time between two writes, in milliseconds.
@@ -77,6 +79,53 @@ impl<'a> CountersFile<'a> {
             Err(error) => unwritten(ended, say_unwritten(rt, path, error)),
         }
     }
+}
+
+impl CountersFile<'_> {
+    /// Ends a command that was refused before its store was open, and gives why. Its counters take the place of those of an earlier run of
+    /// the same alone: any other file at the path may be one of the store's.
+    pub(crate) fn end_refused(&self, rt: &HostRuntime, fault: FileFault) -> FileFault {
+        let Some(path) = self.path else {
+            return fault;
+        };
+        if is_of_another(&fault) || !self.has_own(rt, path).unwrap_or(false) {
+            return fault;
+        }
+        match self.write(rt, path, Some(fault.status())) {
+            Ok(()) => fault,
+            Err(error) => match say_unwritten(rt, path, error) {
+                Ok(()) => fault,
+                Err(other) => {
+                    drop(fault);
+                    other
+                }
+            },
+        }
+    }
+
+    /// Whether the regular file at a path begins as the counters of the same command over the same store do.
+    fn has_own(&self, rt: &HostRuntime, path: &str) -> io::Result<bool> {
+        let alloc = rt.alloc();
+        let text = self.progress.counters(rt, self.store, None)?;
+        let line = text.as_str().split('\n').next().unwrap_or("");
+        let Some((begin, _)) = line.rsplit_once(' ') else {
+            return Ok(false);
+        };
+        let opened = open_regular(rt, path, Links::NotFollowed)?;
+        let mut room = Vec::from_elem(alloc, 0u8, begin.len())?;
+        opened.file.read_exact_at(room.as_mut_slice(), 0)?;
+        Ok(room.as_slice() == begin.as_bytes())
+    }
+}
+
+/// Whether a store was refused since another run, which writes counters of its own, works in it, or since the file is one of the store's.
+fn is_of_another(fault: &FileFault) -> bool {
+    matches!(
+        fault,
+        FileFault::Store {
+            fault: StoreFault::InUse { .. } | StoreFault::ReportInStore { .. },
+        }
+    )
 }
 
 /// Says that counters can't be written.
