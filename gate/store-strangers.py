@@ -1199,7 +1199,7 @@ def test_unknown_beside_what_is_not_determined(place, choose):
         (store / f"s.{name}").unlink()
     (store / "s.x0").symlink_to("s.x0")
     said = "s.x0: can't be looked at: Too many levels of symbolic links\n"
-    for words in (["repair", "-n"], ["repair"], ["repair", "--reads", "all"], ["scrub"], ["lost"]):
+    for words in (["repair", "-n"], ["repair"], ["repair", "--reads", "all"], ["scrub"], ["lost"], ["list"]):
         hold(said in run(*words, "--follow-links", store, status=3), f"{words}: it isn't said")
     for name in ("y1", "y2", "py"):
         os.truncate(store / f"s.{name}", 300)

@@ -1,6 +1,6 @@
 //! The command `list`.
 use crate::commands::opening_of;
-use crate::output::say_alone;
+use crate::output::{say_all, say_alone};
 use lrc_code::PlaceSet;
 use std::alloc::{AllocError, Global};
 use store_arguments::ListOptions;
@@ -9,7 +9,7 @@ use store_folder::Site;
 use store_opening::{OpenStore, Opening, open_store};
 use store_reading::{CopyWork, DescribedStripe, tend_descriptions};
 use store_repair::{Stripe, fragment_length, lost_places};
-use store_reports::{FileState, ListedFile, Rows, file_line, files_listed};
+use store_reports::{FileState, ListedFile, Rows, file_line, files_listed, unknown_lines};
 
 /// Says which files are in a store, and gives the exit status.
 pub fn list(rt: &HostRuntime, options: &ListOptions<'_>) -> Result<u8, FileFault> {
@@ -19,7 +19,7 @@ pub fn list(rt: &HostRuntime, options: &ListOptions<'_>) -> Result<u8, FileFault
     list_files(rt, &opening, &store, form)
 }
 
-/// Says which files are in an open store.
+/// Says which files are in an open store, and which of their fragments can't be looked at.
 fn list_files(
     rt: &HostRuntime,
     opening: &Opening<'_>,
@@ -33,7 +33,9 @@ fn list_files(
     let mut is_device = store.has_unlisted;
     for stripe in &stripes {
         let known = known_of(rt, store, &site, stripe)?;
-        is_device = known.is_unread || is_device;
+        let unknown = unknown_lines(alloc, &site, stripe, store.code.places())?;
+        is_device = is_device || known.is_unread || !unknown.is_empty();
+        say_all(rt, unknown)?;
         let file = file_of(alloc, store, stripe, &known)?;
         broken = broken.saturating_add(u64::from(file.state != FileState::Whole));
         let line = file_line(alloc, &file, form)?;
