@@ -265,11 +265,11 @@ fn owned(
     }
 }
 
-/// Writes a run into the file of its lock, over what is there: a full disk may have no room for what was taken away before.
+/// Writes a run into the file of its lock, in place of what is there.
 fn write_run(alloc: Global, file: &mut File, run: &str) -> io::Result<()> {
     let line = format!(in alloc; "{run}\n")?;
-    file.write_all(line.as_bytes())?;
-    file.set_len(line.len() as u64)
+    file.set_len(0)?;
+    file.write_all(line.as_bytes())
 }
 
 /// The file of a lock that is open, and whether this run has made it.
