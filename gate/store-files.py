@@ -8,7 +8,6 @@ Each expected byte is worked out here, and what a run that was killed leaves is 
 form alone."""
 
 import concurrent.futures
-import fcntl
 import hashlib
 import json
 import os
@@ -392,39 +391,6 @@ def test_read_to_a_file_killed(place, choose):
                 found = out.read_bytes() if out.exists() else None
                 hold(found in (older, data), f"{how} at call {number}, {kinds[number - 1]}: {found!r}")
                 hold(ended.status != 0 or found == data, f"{how} at call {number}, {kinds[number - 1]}: status 0 and {found!r}")
-
-
-def test_read_to_a_file_beside_what_was_killed(place, choose):
-    """What a run that was killed while it read to a file has left beside that goes with the next run to it; what a run works on stays, and
-    so does what is another user's, or isn't of such a run."""
-    calls, store, to, data = Calls(place), place / "store", place / "to", choose.randbytes(3_000)
-    run("encode", store, source(place, "a", data), status=0)
-    to.mkdir()
-    command = [PROGRAM, "read", store, "a", "-o", to / "out"]
-    kinds = calls.run(command).kinds
-    for kind in ("write", "sync", "rename"):
-        calls.run(command, kinds.index(kind) + 1 if kind in kinds else len(kinds), "kill")
-    left = [it.name for it in to.glob(".rebuild-store-*")]
-    hold(left, f"nothing is left: {kinds}")
-    stays = [LEFTOVER[:-1], f"{LEFTOVER}.txt", ".rebuild-store-part-1-of-1", ".rebuild-store-1-3-0123456789abcdef", f"{LEFTOVER[:-1]}0"]
-    for name in (LEFTOVER, *stays):
-        (to / name).write_bytes(b"half")
-    if os.geteuid() == 0:
-        os.chown(to / stays[-1], 1_234, -1)
-    else:
-        (to / stays.pop()).unlink()
-    (store / LEFTOVER).write_bytes(b"half")
-    run("read", store, "a", "-o", store / "new", status=2)
-    hold((store / LEFTOVER).exists(), "a file in the store was removed")
-    with open(to / LEFTOVER, "rb") as held:
-        fcntl.flock(held, fcntl.LOCK_EX)
-        _, err = run(*command[1:], status=0)
-        hold(sorted(it.name for it in to.iterdir()) == sorted(["out", LEFTOVER, *stays]), sorted(to.iterdir()))
-        hold(all(f"{to}/{name}: was left by a run that was killed, and is removed" in err for name in left), err)
-    (to / "out").unlink()
-    run(*command[1:], status=0)
-    hold(sorted(it.name for it in to.iterdir()) == sorted(["out", *stays]), sorted(to.iterdir()))
-    hold((to / "out").read_bytes() == data, "another file")
 
 
 def test_replace(place, choose):

@@ -2,13 +2,11 @@
 use crate::locks::Locks;
 use crate::sharing::OtherRun;
 use std::alloc::AllocError;
-use std::fs;
 use std::io::{self, ErrorKind};
-use std::os::unix::fs::MetadataExt;
-use store_faults::{StoreFault, device_fault, say, words_of};
+use store_faults::{say, words_of};
 use store_folder::{Leftover, is_left_by, remove_leftover};
 use store_listing::{Listing, left_in};
-use store_names::{RANDOM_DIGITS, UNFINISHED, is_unfinished, last_of};
+use store_names::last_of;
 
 /// Removes what a killed run with this tag has left in a folder that was listed, and in those that its links lead to. Each file that is
 /// removed, or can't be, is named, and so is one of a run that may still work, which stays. Says whether all others could be removed.
@@ -58,50 +56,6 @@ fn say_unlisted(rt: &HostRuntime, folder: &str, error: io::Error) -> io::Result<
             )?;
             Ok(false)
         }
-    }
-}
-
-/// Removes the files of the same user in a folder that runs have left which were killed while they wrote one there, as `read` does with
-/// `--output`. Each is named, and so is one of a run that may still work, or one that can't be removed, which stays. A folder that can't be
-/// listed shows none.
-pub fn remove_left_beside(rt: &HostRuntime, folder: &str) -> Result<(), StoreFault> {
-    let mut own = Vec::new(rt.alloc());
-    match left_in(rt, folder, "") {
-        Ok(paths) => {
-            for path in paths {
-                if is_untagged(last_of(path.as_str())) && is_own(rt, path.as_str()) {
-                    own.push(path)?;
-                }
-            }
-        }
-        Err(error) if error.kind() == ErrorKind::OutOfMemory => return Err(StoreFault::OutOfMemory),
-        Err(_) => {}
-    }
-    if own.is_empty() {
-        return Ok(());
-    }
-    let locks = Locks::only_seen(rt)?;
-    for path in &own {
-        if let Err(error) = remove(rt, &locks, path.as_str(), false) {
-            return Err(device_fault(String::from_str(rt.alloc(), path.as_str())?, error));
-        }
-    }
-    Ok(())
-}
-
-/// Whether a name is that of an unfinished file, and says neither a part nor a run.
-fn is_untagged(name: &str) -> bool {
-    is_unfinished(name) && name.len() == UNFINISHED.len().saturating_add(RANDOM_DIGITS)
-}
-
-/// Whether what is at a path is of the user who runs this, who owns what the system says of the process.
-fn is_own(rt: &HostRuntime, path: &str) -> bool {
-    match (
-        fs::metadata(rt, "/proc/self"),
-        fs::symlink_metadata(rt, path),
-    ) {
-        (Ok(process), Ok(there)) => process.uid() == there.uid(),
-        _ => false,
     }
 }
 

@@ -20,7 +20,7 @@ mod unlisted;
 mod unmounted;
 
 pub use fitting::refuse_other_stores;
-pub use leftovers::{remove_left_beside, remove_leftovers};
+pub use leftovers::remove_leftovers;
 pub use locks::Locks;
 pub use open_stores::{OpenStore, open_store};
 pub use opening::{Access, Opening, Unmounted};

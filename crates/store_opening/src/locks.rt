@@ -39,15 +39,6 @@ impl Locks {
         }
     }
 
-    /// Those of a run that writes no store, but sees whether others hold theirs.
-    pub fn only_seen(rt: &HostRuntime) -> Result<Locks, StoreFault> {
-        Ok(Locks {
-            files: Vec::new(rt.alloc()),
-            part: None,
-            sharing: Sharing::read(rt)?,
-        })
-    }
-
     /// Those that keep other runs that write out of a folder, or out of a part of it. A lock of a folder keeps out runs of this host alone:
     /// if others may have the folder too, a run that works on all of it has the lock of part 1 of 1 besides. Of runs of other hosts a lock
     /// keeps out those with the same part alone: for the others `refuse_other_parts` refuses the store, once it is listed.

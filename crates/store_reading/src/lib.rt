@@ -11,5 +11,4 @@ mod reading;
 
 pub use copies::{CopyWork, DescribedStripe, tend_descriptions};
 pub use reading::destination::passes_to;
-pub use reading::refusing::refuse_in_store;
 pub use reading::{read_file, verify_file};

@@ -3,7 +3,7 @@ mod choosing;
 pub(crate) mod destination;
 pub(crate) mod fragments;
 pub(crate) mod output;
-pub(crate) mod refusing;
+mod refusing;
 
 ghost use Rattle.std.specs.Prelude.{◌≡◌, vec_len};
 

@@ -2,10 +2,8 @@
 use store_arguments::ReadOptions;
 use store_faults::{DONE, FileFault};
 use store_files::{StoredFile, first_described};
-use store_folder::folder_of;
-use store_opening::remove_left_beside;
 use store_progress::{Operation, Progress, Task};
-use store_reading::{passes_to, read_file, refuse_in_store};
+use store_reading::{passes_to, read_file};
 
 /// Writes a file to a file or to standard output, says what was left out, and gives the exit status.
 pub fn read(rt: &HostRuntime, options: &ReadOptions<'_>) -> Result<u8, FileFault> {
@@ -24,25 +22,20 @@ pub fn read(rt: &HostRuntime, options: &ReadOptions<'_>) -> Result<u8, FileFault
     Ok(DONE)
 }
 
-/// Writes a file to a path, and shows how far that is. What a run that was killed has left beside it is removed first: it takes room.
+/// Writes a file to a path, and shows how far that is.
 fn read_shown(
     rt: &HostRuntime,
     file: &StoredFile<'_, '_>,
     path: &str,
     is_quiet: bool,
 ) -> Result<(), FileFault> {
-    refuse_in_store(rt, file, path)?;
-    let passes = passes_to(rt, path);
-    if passes == 1 {
-        remove_left_beside(rt, folder_of(path))?;
-    }
     // How long it is, as far as a description says it.
     let bytes = first_described(rt, file)?.map_or(0, |described| described.length);
     let task = Task {
         operation: Operation::Read,
         units: 1,
         bytes,
-        passes,
+        passes: passes_to(rt, path),
     };
     let progress = Progress::new(rt, task, is_quiet);
     let shown = StoredFile {

@@ -47,7 +47,7 @@ pub(crate) fn write_at(
     requires { vec_len fragments.now.opened ≡ 16 }
 {
     let alloc = rt.alloc();
-    refuse_in_store(rt, &sought.file, path)?;
+    refuse_in_store(rt, sought, path)?;
     if let Err(fault) = refuse_over_limit(rt, path, sought.described.length) {
         // Another description may have another length.
         return match set_that_fits(rt, sought, fragments)? {

@@ -4,7 +4,7 @@ use std::fs;
 use std::io::{self, ErrorKind};
 use std::os::unix::fs::MetadataExt;
 use store_faults::{FileFault, device};
-use store_files::StoredFile;
+use store_files::Sought;
 use store_folder::{Identity, folder_of, followed, path_in};
 use store_names::{folder_in, stripe_folders};
 
@@ -16,16 +16,12 @@ const TOO_MANY_LINKS: i32 = 40;
 
 /// Refuses a path in the store's own folder, which may have its digests, in one that has fragments of it, or below one of these; and one
 /// whose links lead there.
-pub fn refuse_in_store(
+pub(crate) fn refuse_in_store(
     rt: &HostRuntime,
-    file: &StoredFile<'_, '_>,
+    sought: &Sought<'_, '_>,
     path: &str,
 ) -> Result<(), FileFault> {
-    let own = match fs::metadata(rt, file.folder) {
-        Ok(own) => Identity::of(&own),
-        Err(error) => return Err(device(rt.alloc(), file.folder, error)),
-    };
-    match leads_into_store(rt, file, own, path) {
+    match leads_into_store(rt, sought, path) {
         Ok(false) => Ok(()),
         Ok(true) => Err(FileFault::Usage {
             what: format!(in rt.alloc(); "{path}: is in a folder of the store")?,
@@ -35,13 +31,8 @@ pub fn refuse_in_store(
 }
 
 /// Whether a path, or what its links lead to, is in a folder of the store or below one.
-fn leads_into_store(
-    rt: &HostRuntime,
-    file: &StoredFile<'_, '_>,
-    own: Identity,
-    path: &str,
-) -> io::Result<bool> {
-    let folders = folders_of(rt, file, own)?;
+fn leads_into_store(rt: &HostRuntime, sought: &Sought<'_, '_>, path: &str) -> io::Result<bool> {
+    let folders = folders_of(rt, sought)?;
     let folders = folders.as_slice();
     if is_below(rt, folder_of(path), folders)? {
         return Ok(true);
@@ -52,14 +43,12 @@ fn leads_into_store(
 
 /// The store's own folder, those that the fragments are in, and those above these in the store. One that can't be looked at is left out:
 /// what has failed on a disk doesn't keep the file from being read.
-fn folders_of(
-    rt: &HostRuntime,
-    file: &StoredFile<'_, '_>,
-    own: Identity,
-) -> io::Result<Vec<Identity>> {
+fn folders_of(rt: &HostRuntime, sought: &Sought<'_, '_>) -> io::Result<Vec<Identity>> {
     let alloc = rt.alloc();
+    let file = &sought.file;
+    let own = fs::metadata(rt, file.folder)?;
     let mut folders = Vec::new(alloc);
-    folders.push(own)?;
+    folders.push(Identity::of(&own))?;
     for folder in stripe_folders(alloc, &file.pattern, Code::Wide, file.name)? {
         let mut inside = folder.as_str();
         for _level in 0..file.pattern.depth() {
