@@ -12,7 +12,9 @@ use destination::write_at;
 use fragments::{Fragments, Missing, open_fragments, unread_of};
 use output::write_out;
 use store_faults::FileFault;
-use store_files::{Sought, StoredFile, descriptions_of, is_whole, staged_name};
+use store_files::{
+    Sought, StoredFile, described_for_sure, descriptions_of, is_whole, shares_fragment, staged_name,
+};
 use store_folder::SystemFolder;
 
 /// What is done with a file that is read.
@@ -39,10 +41,30 @@ pub fn read_file(
         name: staged.as_str(),
         ..*file
     };
-    if is_whole(rt, &staged)? {
+    if is_newer(rt, &staged, file)? {
         return read_fitting(rt, &staged, output);
     }
     read_fitting(rt, file, output)
+}
+
+/// Whether all of a stripe is there that is to replace a file. If its description can't be read, it counts as not described, unless
+/// fragments of it have names of the file already.
+fn is_newer(
+    rt: &HostRuntime,
+    staged: &StoredFile<'_, '_>,
+    file: &StoredFile<'_, '_>,
+) -> Result<bool, FileFault> {
+    match described_for_sure(rt, staged) {
+        Ok(Some(described)) => is_whole(rt, staged, described.code),
+        Ok(None) => Ok(false),
+        Err(fault) if matches!(&fault, FileFault::OutOfMemory) => Err(fault),
+        Err(fault) => {
+            if shares_fragment(rt, staged, file)? {
+                return Err(fault);
+            }
+            Ok(false)
+        }
+    }
 }
 
 /// Holds a file of a store to its digest, and says what was left out.

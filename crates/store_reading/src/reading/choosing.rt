@@ -64,16 +64,18 @@ fn with_description(
 ) -> Result<Option<PlaceSet>, FileFault>
     requires { vec_len fragments.now.opened ≡ 16 }
 {
-    let all = fragments.set;
     let (described, unopposed) = by_descriptions(rt, sought, fragments)?;
-    for set in [described, unopposed] {
-        if set.len() < all.len() && gives_file(rt, sought, fragments, set)? {
-            say_described(rt, sought);
-            return Ok(Some(set));
-        }
-    }
-    if unopposed.len() == all.len() {
+    // If no disk has another description, none has an old fragment for that.
+    if unopposed.len() == fragments.set.len() {
         return Ok(None);
+    }
+    if described.len() < unopposed.len() && gives_file(rt, sought, fragments, described)? {
+        say_described(rt, sought);
+        return Ok(Some(described));
+    }
+    if gives_file(rt, sought, fragments, unopposed)? {
+        say_described(rt, sought);
+        return Ok(Some(unopposed));
     }
     let set = without_some(rt, sought, fragments, unopposed)?;
     if set.is_some() {

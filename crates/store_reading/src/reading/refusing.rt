@@ -1,12 +1,12 @@
 //! Paths that no file is read to, since they are the store's.
 use lrc_code::Code;
-use std::fs;
+use std::fs::{self, Metadata};
 use std::io::{self, ErrorKind};
 use std::os::unix::fs::MetadataExt;
 use store_faults::{FileFault, device};
-use store_files::Sought;
+use store_files::{Sought, StoredFile};
 use store_folder::{Identity, folder_of, followed, path_in};
-use store_names::{folder_in, stripe_folders};
+use store_names::{disk_folders, folder_in, stripe_folders};
 
 /// So many folders at most are above another one: each is a `/..` more, and the system takes no path of more than 4,096 bytes.
 const MOST_LEVELS: usize = 4_096 / 3;
@@ -14,8 +14,16 @@ const MOST_LEVELS: usize = 4_096 / 3;
 /// The number of the error that a path has too many links.
 const TOO_MANY_LINKS: i32 = 40;
 
-/// Refuses a path in the store's own folder, which may have its digests, in one that has fragments of it, or below one of these; and one
-/// whose links lead there.
+/// The folders of a store that a path is held to.
+#[derive(Drop)]
+struct Folders {
+    /// Those in which no file is to be made that isn't the store's.
+    inside: Vec<Identity>,
+    /// Those in which and below which none is.
+    below: Vec<Identity>,
+}
+
+/// Refuses a path in a folder of the store, or below one that may have fragments of it anywhere; and one whose links lead there.
 pub(crate) fn refuse_in_store(
     rt: &HostRuntime,
     sought: &Sought<'_, '_>,
@@ -33,61 +41,105 @@ pub(crate) fn refuse_in_store(
 /// Whether a path, or what its links lead to, is in a folder of the store or below one.
 fn leads_into_store(rt: &HostRuntime, sought: &Sought<'_, '_>, path: &str) -> io::Result<bool> {
     let folders = folders_of(rt, sought)?;
-    let folders = folders.as_slice();
-    if is_below(rt, folder_of(path), folders)? {
+    if is_among(rt, folder_of(path), &folders)? {
         return Ok(true);
     }
-    let end = end_of_links(rt, path)?;
-    is_below(rt, folder_of(end.as_str()), folders)
+    match end_of_links(rt, path)? {
+        Some(end) => is_among(rt, folder_of(end.as_str()), &folders),
+        None => Ok(false),
+    }
 }
 
-/// The store's own folder, those that the fragments are in, and those above these in the store. One that can't be looked at is left out:
-/// what has failed on a disk doesn't keep the file from being read.
-fn folders_of(rt: &HostRuntime, sought: &Sought<'_, '_>) -> io::Result<Vec<Identity>> {
+/// The store's own folder, those that the fragments are in, and those above these in the store. If each disk has a folder of its own, what
+/// is beside these is somebody else's; else other stripes may have theirs anywhere. One that can't be looked at is left out: what has
+/// failed on a disk doesn't keep the file from being read.
+fn folders_of(rt: &HostRuntime, sought: &Sought<'_, '_>) -> io::Result<Folders> {
     let alloc = rt.alloc();
-    let file = &sought.file;
-    let own = fs::metadata(rt, file.folder)?;
-    let mut folders = Vec::new(alloc);
-    folders.push(Identity::of(&own))?;
-    for folder in stripe_folders(alloc, &file.pattern, Code::Wide, file.name)? {
-        let mut inside = folder.as_str();
-        for _level in 0..file.pattern.depth() {
+    let StoredFile { pattern, .. } = sought.file;
+    let mut folders = Folders {
+        inside: Vec::new(alloc),
+        below: Vec::new(alloc),
+    };
+    let disks = disk_folders(alloc, &pattern, Code::Wide)?;
+    let are_disks = disks.is_some();
+    let own = Identity::of(&fs::metadata(rt, sought.file.folder)?);
+    folders.add(own, are_disks || pattern.depth() == 0)?;
+    let of_fragments = match disks {
+        Some(disks) => disks,
+        None => stripe_folders(alloc, &pattern, Code::Wide, sought.file.name)?,
+    };
+    for folder in &of_fragments {
+        folders.add_with_above(rt, sought, folder.as_str(), are_disks)?;
+    }
+    Ok(folders)
+}
+
+impl Folders {
+    /// Adds a folder.
+    fn add(&mut self, folder: Identity, is_alone: bool) -> io::Result<()> {
+        let list = if is_alone {
+            &mut self.inside
+        } else {
+            &mut self.below
+        };
+        Ok(list.push(folder)?)
+    }
+
+    /// Adds a folder that fragments are in, and those above it in the store.
+    fn add_with_above(
+        &mut self,
+        rt: &HostRuntime,
+        sought: &Sought<'_, '_>,
+        folder: &str,
+        are_disks: bool,
+    ) -> io::Result<()> {
+        let mut inside = folder;
+        for level in 0..sought.file.pattern.depth() {
             if inside.is_empty() {
                 break;
             }
-            let path = path_in(alloc, file.folder, inside)?;
+            let path = path_in(rt.alloc(), sought.file.folder, inside)?;
             match fs::metadata(rt, path.as_str()) {
-                Ok(there) => folders.push(Identity::of(&there))?,
+                Ok(there) => self.add(Identity::of(&there), are_disks && 0 < level)?,
                 Err(error) if error.kind() == ErrorKind::OutOfMemory => return Err(error),
                 Err(_) => {}
             }
             inside = folder_in(inside);
         }
+        Ok(())
     }
-    Ok(folders)
 }
 
-/// Whether a folder is one of some others, or below one.
-fn is_below(rt: &HostRuntime, folder: &str, others: &[Identity]) -> io::Result<bool> {
+/// Whether a folder is one of a store, or below one that may have fragments anywhere. What is above a folder that can't be searched isn't
+/// seen.
+fn is_among(rt: &HostRuntime, folder: &str, folders: &Folders) -> io::Result<bool> {
     let mut path = String::from_str(rt.alloc(), folder)?;
-    let mut below = None;
+    let mut lower = Identity::of(&fs::metadata(rt, folder)?);
+    if folders.inside.contains(&lower) {
+        return Ok(true);
+    }
     for _level in 0..MOST_LEVELS {
-        let here = Identity::of(&fs::metadata(rt, path.as_str())?);
-        if others.contains(&here) {
+        if folders.below.contains(&lower) {
             return Ok(true);
         }
+        path.push_str("/..")?;
+        let above = match fs::metadata(rt, path.as_str()) {
+            Ok(above) => Identity::of(&above),
+            Err(error) if error.kind() == ErrorKind::PermissionDenied => return Ok(false),
+            Err(error) => return Err(error),
+        };
         // Above the root is the root.
-        if below == Some(here) {
+        if above == lower {
             return Ok(false);
         }
-        below = Some(here);
-        path.push_str("/..")?;
+        lower = above;
     }
     Err(io::Error::from(ErrorKind::InvalidFilename))
 }
 
-/// The path of what a path's links lead to. Only a regular file has to be there: a pipe, to which `/dev/stdout` may lead, has no path.
-fn end_of_links(rt: &HostRuntime, path: &str) -> io::Result<String> {
+/// The path of what a path's links lead to, if that is, or would be, a regular file that can be found there. A pipe, to which `/dev/stdout`
+/// may lead, has no path, nor has a file that was removed, or is outside what this process sees of the system's files.
+fn end_of_links(rt: &HostRuntime, path: &str) -> io::Result<Option<String>> {
     let end = match followed(rt, String::from_str(rt.alloc(), path)?) {
         Ok(end) => end,
         Err(error) if error.kind() == ErrorKind::InvalidInput => {
@@ -96,14 +148,22 @@ fn end_of_links(rt: &HostRuntime, path: &str) -> io::Result<String> {
         Err(error) => return Err(error),
     };
     match fs::metadata(rt, path) {
-        Ok(there) if there.is_file() && 0 < there.nlink() => {
-            let found = fs::symlink_metadata(rt, end.as_str())?;
-            if Identity::of(&found) == Identity::of(&there) {
-                return Ok(end);
-            }
+        Ok(there) if there.is_file() && 0 < there.nlink() => is_at(rt, end, &there),
+        Err(error) if error.kind() == ErrorKind::NotFound => Ok(Some(end)),
+        Err(error) => Err(error),
+        Ok(_) => Ok(None),
+    }
+}
+
+/// A path, if this file is there; a link there was none when the links were followed.
+fn is_at(rt: &HostRuntime, path: String, file: &Metadata) -> io::Result<Option<String>> {
+    match fs::symlink_metadata(rt, path.as_str()) {
+        Ok(found) if Identity::of(&found) == Identity::of(file) => Ok(Some(path)),
+        Ok(found) if found.is_symlink() => {
             Err(io::Error::new(ErrorKind::ResourceBusy, "changed meanwhile"))
         }
-        Err(error) if error.kind() != ErrorKind::NotFound => Err(error),
-        _ => Ok(end),
+        Ok(_) => Ok(None),
+        Err(error) if error.kind() == ErrorKind::NotFound => Ok(None),
+        Err(error) => Err(error),
     }
 }
