@@ -134,43 +134,15 @@ fn first_said(
     Ok(None)
 }
 
-/// Whether there is a stripe of a name that is to replace another one: one of its descriptions, which are made last, and so many fragments
-/// that they give the others. A disk that was away when it replaced the other one has fewer. What can't be looked at counts as not there,
-/// and is said; but where no description can be read and one may be there, of a stripe that may be whole, that is a fault.
-pub fn is_whole(rt: &HostRuntime, file: &StoredFile<'_, '_>) -> Result<bool, FileFault> {
-    let mut refused = None;
-    let Some(described) = first_said(rt, file, &mut refused)? else {
-        return match refused {
-            Some(fault) if may_be_whole(rt, file)? => Err(fault),
-            _ => Ok(false),
-        };
-    };
-    let code = described.code;
+/// Whether so many fragments of a stripe are there that they give the others. A disk that was away when the stripe replaced another one has
+/// fewer. What can't be looked at counts as not there, and is said.
+pub fn is_whole(
+    rt: &HostRuntime,
+    file: &StoredFile<'_, '_>,
+    code: Code,
+) -> Result<bool, FileFault> {
     let there = fragments_there(rt, file, code)?;
-    determine(rt.alloc(), code, there)
-}
-
-/// Whether there may be a stripe whose descriptions can't be read, of either code: what can't be looked at of its fragments may be there.
-fn may_be_whole(rt: &HostRuntime, file: &StoredFile<'_, '_>) -> Result<bool, FileFault> {
-    for code in [Code::Narrow, Code::Wide] {
-        let mut there = PlaceSet::empty();
-        for place in code.places() {
-            match has_fragment(rt, file, code, *place) {
-                Ok(false) => {}
-                Err(fault) if matches!(&fault, FileFault::OutOfMemory) => return Err(fault),
-                _ => there = there.with(*place),
-            }
-        }
-        if determine(rt.alloc(), code, there)? {
-            return Ok(true);
-        }
-    }
-    Ok(false)
-}
-
-/// Whether the fragments at some places give the others of their stripe.
-fn determine(alloc: Global, code: Code, there: PlaceSet) -> Result<bool, FileFault> {
-    let lost = lost_places(alloc, code, there, code.others(there))?;
+    let lost = lost_places(rt.alloc(), code, there, code.others(there))?;
     Ok(lost.several.is_empty())
 }
 

@@ -19,6 +19,9 @@ pub use descriptions::{
     described_for_sure, descriptions_of, first_described, is_whole, own_description,
 };
 pub use digesting::{Digested, Unkept, digest_at};
-pub use staging::{has_some, is_staged, is_there, no_stored, refuse_linked, staged_name};
+pub use staging::{
+    has_fragments_of, has_some, is_staged, is_there, no_stored, refuse_linked, shares_fragment,
+    staged_name,
+};
 pub use stored_file::{Sought, StoredFile};
 pub use target::Target;

@@ -1,11 +1,13 @@
 //! Stripes that are to replace others: their names, and whether one is there.
+use crate::digesting::digest_at;
 use crate::stored_file::StoredFile;
 use crate::target::Target;
 use lrc_code::{Code, Place};
 use std::alloc::{AllocError, Global};
-use std::fs;
+use std::fs::{self, Metadata};
+use std::io::ErrorKind;
 use store_faults::{FileFault, device, fragment_name};
-use store_folder::{is_absent, path_in, refuse_linked_folders};
+use store_folder::{Digest, Identity, is_absent, path_in, refuse_linked_folders};
 
 /// How the name of a stripe ends that is to replace another one.
 const STAGED: &str = ".rebuild-store-new";
@@ -52,6 +54,105 @@ pub(crate) fn has_fragment(
     let name = fragment_name(alloc, &file.pattern, code, file.name, place)?;
     let path = path_in(alloc, file.folder, name.as_str())?;
     is_there(rt, path.as_str())
+}
+
+/// Whether a fragment of a stripe has the name of another stripe's too. What can't be looked at counts as not there.
+pub fn shares_fragment(
+    rt: &HostRuntime,
+    file: &StoredFile<'_, '_>,
+    other: &StoredFile<'_, '_>,
+) -> Result<bool, FileFault> {
+    for code in [Code::Narrow, Code::Wide] {
+        for place in code.places() {
+            let here = fragment_at(rt, file, code, *place)?;
+            if here.is_some() && is_one(here, fragment_at(rt, other, code, *place)?) {
+                return Ok(true);
+            }
+        }
+    }
+    Ok(false)
+}
+
+/// Whether each fragment of a stripe has the name of another stripe's too, or the bytes of that one. What can't be looked at counts as not
+/// there.
+pub fn has_fragments_of(
+    rt: &HostRuntime,
+    file: &StoredFile<'_, '_>,
+    other: &StoredFile<'_, '_>,
+) -> Result<bool, FileFault> {
+    for code in [Code::Narrow, Code::Wide] {
+        for place in code.places() {
+            if !has_fragment_of(rt, file, other, code, *place)? {
+                return Ok(false);
+            }
+        }
+    }
+    Ok(true)
+}
+
+/// The same of the fragment at a place, if there is one.
+fn has_fragment_of(
+    rt: &HostRuntime,
+    file: &StoredFile<'_, '_>,
+    other: &StoredFile<'_, '_>,
+    code: Code,
+    place: Place,
+) -> Result<bool, FileFault> {
+    let Some(here) = fragment_at(rt, file, code, place)? else {
+        return Ok(true);
+    };
+    let Some(there) = fragment_at(rt, other, code, place)? else {
+        return Ok(false);
+    };
+    if Identity::of(&here) == Identity::of(&there) {
+        return Ok(true);
+    }
+    let length = here.len();
+    let own = digest_of_fragment(rt, file, code, place, length)?;
+    Ok(own.is_some() && own == digest_of_fragment(rt, other, code, place, length)?)
+}
+
+/// The digest of a stripe's fragment at a place, if it has this length and can be read.
+fn digest_of_fragment(
+    rt: &HostRuntime,
+    file: &StoredFile<'_, '_>,
+    code: Code,
+    place: Place,
+    length: u64,
+) -> Result<Option<Digest>, FileFault> {
+    let alloc = rt.alloc();
+    let name = fragment_name(alloc, &file.pattern, code, file.name, place)?;
+    let path = path_in(alloc, file.folder, name.as_str())?;
+    match digest_at(rt, path.as_str(), length, file.links) {
+        Ok(digest) => Ok(Some(digest)),
+        Err(error) if error.kind() == ErrorKind::OutOfMemory => Err(FileFault::OutOfMemory),
+        Err(_) => Ok(None),
+    }
+}
+
+/// Whether two names are of one file.
+fn is_one(here: Option<Metadata>, there: Option<Metadata>) -> bool {
+    match (here, there) {
+        (Some(here), Some(there)) => Identity::of(&here) == Identity::of(&there),
+        _ => false,
+    }
+}
+
+/// What the system says of the fragment of a stripe at a place, if it can be looked at.
+fn fragment_at(
+    rt: &HostRuntime,
+    file: &StoredFile<'_, '_>,
+    code: Code,
+    place: Place,
+) -> Result<Option<Metadata>, FileFault> {
+    let alloc = rt.alloc();
+    let name = fragment_name(alloc, &file.pattern, code, file.name, place)?;
+    let path = path_in(alloc, file.folder, name.as_str())?;
+    match fs::symlink_metadata(rt, path.as_str()) {
+        Ok(there) => Ok(Some(there)),
+        Err(error) if error.kind() == ErrorKind::OutOfMemory => Err(FileFault::OutOfMemory),
+        Err(_) => Ok(None),
+    }
 }
 
 /// That a store has no file of a name.

@@ -183,9 +183,10 @@ fn replace_begun(
     if !are_apart(target.folder, files, replaced) {
         return Err(no_name(rt, name));
     }
-    let is_whole = is_to_replace(rt, target, begun, files, replaced)?;
+    let is_whole = is_to_replace(rt, begun, name)?;
     if is_whole {
-        refuse_irregular(rt, target, replaced)?;
+        // Among those to be replaced are old descriptions as fragments: here each is what its name says.
+        refuse_irregular(rt, target, &StripeFiles::of(rt.alloc(), target, name)?)?;
     }
     let system = &mut SystemFolder::new(rt);
     end(rt, system, target, files, replaced, is_whole)
