@@ -250,7 +250,9 @@ fn owned(
         Ok(()) => Ok(file),
         Err(error) => {
             // It is this run's, also if one that has ended had it before: no other run gets past a lock that names no run.
-            let _ = fs::remove_file(rt, path);
+            if is_named(rt, &file, path).unwrap_or(false) {
+                let _ = fs::remove_file(rt, path);
+            }
             Err(device_fault(String::from_str(rt.alloc(), path)?, error))
         }
     }
