@@ -9,18 +9,6 @@ use std::process::Abort;
 use store_folder::{FolderStore, Links, Pattern, SeparateStore, Site, Sums};
 use store_repair::{Found, Stripe, StripeFiles, StripeOutcome, repair_stripe};
 
-/// Where the short stripe's folder is.
-const SITE: Site<'static> = Site {
-    folder: "store",
-    target: "store",
-    pattern: Pattern::PLAIN,
-    code: Code::Narrow,
-    sums: None,
-    tag: "",
-    links: Links::NotFollowed,
-    unmounted: &[],
-};
-
 /// The paths of its fragments under their names and under their second names.
 pub(crate) static PATHS: [(Place, &str, &str); 10] = [
     (Place::X0, "store/a.x0", "store/a.x0.damaged"),
@@ -71,7 +59,16 @@ pub(crate) fn repaired(
         name: SHORT.name,
         files: found,
     };
-    let site = Site { sums, ..SITE };
+    let site = Site {
+        folder: "store",
+        target: "store",
+        pattern: Pattern::PLAIN,
+        code: Code::Narrow,
+        sums,
+        tag: "",
+        links: Links::NotFollowed,
+        unmounted: &[],
+    };
     let mut store = SeparateStore::new(FolderStore::over(rt, files, site));
     let outcome = repair_stripe(rt.alloc(), &mut store, &case.repair, &stripe);
     (outcome, store.into_files())
