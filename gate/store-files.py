@@ -308,6 +308,9 @@ def test_read_to_a_path_that_leads_into_the_store(place, choose):
             hold(ended.status in (2, 3) and there(store) == files, f"call {number}: {ended.text()}")
     run("read", *names, ".", "a", "-o", "../out", status=0, cwd=store)
     hold((place / "out").read_bytes() == data, "nothing is read to the folder above the store's")
+    gone = subprocess.run(["sh", "-c", 'exec > gone; rm gone; exec "$@"', "sh", PROGRAM, "read", *names, store, "a", "-o", "/dev/stdout"],
+                          cwd=place, capture_output=True)
+    hold(gone.returncode == 0, f"nothing is read to a file that has no name any more: {gone.stderr}")
     hold(run("read", *names, store, "a", "-o", "/dev/stdout", status=0)[0] == data, "nothing is read to a pipe")
     loop = place / "loop"
     loop.symlink_to(loop.name)
@@ -318,6 +321,11 @@ def test_read_to_a_path_that_leads_into_the_store(place, choose):
     run("encode", "--make-folders", *names, disks, place / "a", status=0)
     (disks / "disk3").rename(outside)
     (disks / "disk3").symlink_to(outside)
+    # What is beside the disks is no folder of the store, if theirs are its only ones.
+    (disks / "other/deep").mkdir(parents=True)
+    for beside in ("other/a", "other/deep/a"):
+        run("read", *names, disks, "a", "-o", disks / beside, status=0)
+        hold((disks / beside).read_bytes() == data, f"{beside}: isn't the file")
     for inside in ("all/a", "all/new", "new"):
         _, err = run("read", *names, disks, "a", "-o", outside / inside, status=2)
         hold("is in a folder of the store" in err and not (outside / "new").exists(), f"{inside}: {err}")
@@ -789,18 +797,18 @@ def test_replacement_whose_description_fails(place, choose):
     kept, _, new = begun_replacement(place, choose)
     calls, store = Calls(place), place / "again"
     command, staged = [PROGRAM, "encode", "--replace", store, place / "a"], store / f"a{STAGED}.file"
-    shutil.copytree(kept, store)
+    subprocess.run(["cp", "-a", kept, store], check=True)
     renames = [number for number, kind in enumerate(calls.run(command).kinds, 1) if kind == "rename"]
     hold(calls.run([*command[:3], kept, place / "a"], renames[3], "kill").status == -9, "the run wasn't killed when it had given names")
     (kept / f"{staged.name}.copy").unlink()
     before, tried = lasting(kept), set()
     for words in (command, [PROGRAM, "read", store, "a"]):
         shutil.rmtree(store)
-        shutil.copytree(kept, store)
+        subprocess.run(["cp", "-a", kept, store], check=True)
         for number, kind in enumerate(calls.run(words).kinds, 1):
             if kind in ("look", "open", "read"):
                 shutil.rmtree(store)
-                shutil.copytree(kept, store)
+                subprocess.run(["cp", "-a", kept, store], check=True)
                 ended = calls.run(words, number, (5, 13, 116)[number % 3], "path")
                 if ended.paths == (str(staged),) and not (kind == "look" and ended.status == 0):
                     tried.add((words[1], kind))
@@ -813,29 +821,68 @@ def test_replacement_whose_description_fails(place, choose):
 
 
 def test_replacement_whose_disk_is_away(place, choose):
-    """What has been given names isn't thrown away where the disk that describes it is away."""
-    kept, old, new = begun_replacement(place, choose, *DISKS)
-    calls, store = Calls(place), place / "again"
-    for number in range(1, 10):
-        (kept / f"disk{number}/a{STAGED}.file").unlink()
-    shutil.copytree(kept, store)
-    command = [PROGRAM, "encode", "--replace", *DISKS, store, place / "a"]
-    kinds = calls.run(command).kinds
-    renames = [number for number, kind in enumerate(kinds, 1) if kind == "rename"]
-    for number in [*renames[2:12], *(number for number, kind in enumerate(kinds, 1) if kind == "unlink" and number > renames[9])][:16]:
-        shutil.rmtree(store)
+    """What has been given names isn't thrown away where the disk that describes it is away, also if the store has no digests."""
+    for has_sums in (True, False):
+        kept, old, new = begun_replacement(place, choose, *DISKS)
+        calls, store = Calls(place), place / "again"
+        for number in range(1, 10):
+            (kept / f"disk{number}/a{STAGED}.file").unlink()
+        if not has_sums:
+            (kept / "SHA256SUMS").unlink()
         shutil.copytree(kept, store)
-        hold(calls.run(command, number, "kill").status == -9, f"call {number} isn't made")
-        (store / "disk0").rename(place / "away")
-        (store / "disk0").mkdir()
-        before = lasting(store)
-        _, err = run(*command[1:], status=1)
-        hold("too little of it is there" in err and lasting(store) == before, f"call {number}: {err}")
-        (store / "disk0").rmdir()
-        (place / "away").rename(store / "disk0")
-        run(*command[1:], status=0)
-        hold(run("read", *DISKS, store, "a", status=0)[0] == new, f"call {number}: not the new file")
-        hold(not [it for it in there(store) if STAGED in it], f"call {number}: left {sorted(there(store))}")
+        command = [PROGRAM, "encode", "--replace", *DISKS, store, place / "a"]
+        kinds = calls.run(command).kinds
+        renames = [number for number, kind in enumerate(kinds, 1) if kind == "rename"]
+        unlinks = [number for number, kind in enumerate(kinds, 1) if kind == "unlink" and number > renames[9]]
+        # The last name is that of the digests, once nothing is left of what was begun if there were none.
+        for number in [*renames[2 : 12 if has_sums else 11], *unlinks][:16]:
+            shutil.rmtree(store)
+            shutil.copytree(kept, store)
+            hold(calls.run(command, number, "kill").status == -9, f"call {number} isn't made")
+            (store / "disk0").rename(place / "away")
+            (store / "disk0").mkdir()
+            before = lasting(store)
+            _, err = run(*command[1:], status=1)
+            hold("too little of it is there" in err and lasting(store) == before, f"call {number}, {has_sums}: {err}")
+            (store / "disk0").rmdir()
+            (place / "away").rename(store / "disk0")
+            run(*command[1:], status=0)
+            hold(run("read", *DISKS, store, "a", status=0)[0] == new, f"call {number}: not the new file")
+            hold(not [it for it in there(store) if STAGED in it], f"call {number}: left {sorted(there(store))}")
+        shutil.rmtree(store)
+        shutil.rmtree(kept)
+
+
+def test_read_beside_what_is_not_described(place, choose):
+    """Beside what a run has left without a description the old file is read, also if that can't be seen on a disk which fails; and once a
+    repair has made again what a killed run had taken away of it, the next run takes all of it away."""
+    store, old, new = begun_replacement(place, choose, *DISKS)
+    calls, command = Calls(place), [PROGRAM, "read", *DISKS, store, "a"]
+    for number in range(10):
+        (store / f"disk{number}/a{STAGED}.file").unlink()
+    failing, tried = store / f"disk3/a{STAGED}.file", 0
+    for number, kind in enumerate(calls.run(command).kinds, 1):
+        if kind in ("look", "open"):
+            ended = calls.run(command, number, 5, "path")
+            if ended.paths == (str(failing),):
+                tried += 1
+                hold(ended.status == 0 and ended.out == old.decode(errors="replace"), f"call {number}, {kind}: {ended.text()}")
+    hold(tried > 0, "the description isn't looked for")
+    shutil.rmtree(store)
+    kept, _, new = begun_replacement(place, choose)
+    command = [PROGRAM, "encode", "--replace", kept, place / "a"]
+    shutil.copytree(kept, place / "again")
+    kinds = calls.run([*command[:3], place / "again", place / "a"]).kinds
+    given = [number for number, kind in enumerate(kinds, 1) if kind == "rename"][11]
+    # Its two descriptions go first.
+    last = [number for number, kind in enumerate(kinds, 1) if kind == "unlink" and number > given][6]
+    hold(calls.run(command, last, "kill").status == -9, "the run wasn't killed")
+    left = [it for it in there(kept) if STAGED in it]
+    hold(0 < len(left) < 10 and not [it for it in left if ".file" in it], f"left {left}")
+    lost = next(it for it in PLACES if f"a{STAGED}.{it}" not in left)
+    (kept / f"a{STAGED}.{lost}").write_bytes((kept / f"a.{lost}").read_bytes())
+    run(*command[1:], status=0)
+    hold(decoded(kept, "a") == new and not [it for it in there(kept) if STAGED in it], f"left {sorted(there(kept))}")
 
 
 def test_replacement_that_was_damaged(place, choose):
@@ -858,7 +905,7 @@ def test_replacement_that_was_damaged(place, choose):
 def test_replace_leaves_what_is_no_description(place, choose):
     """What has the name of a description and can't be one stays, and refuses the file, also where all of the new one is there."""
     for names, described in (([], "a.file"), ([], "a.file.copy"), (DISKS, "disk3/a.file")):
-        for begun in (False, True):
+        for begun in ("", "all", "but one description"):
             for make, said in ((lambda it: it.write_bytes(bytes(100_000)), "is longer than a description, and isn't replaced"),
                                (os.mkfifo, "is no regular file, and isn't replaced"),
                                (lambda it: it.symlink_to(place / "a"), "is no regular file, and isn't replaced")):
@@ -869,6 +916,8 @@ def test_replace_leaves_what_is_no_description(place, choose):
                     run("encode", "--make-folders", *names, store, source(place, "a", choose.randbytes(2_000)), status=0)
                 other = store / described
                 other.unlink()
+                if begun == "but one description":
+                    (store / described.replace("a.", f"a{STAGED}.")).unlink()
                 make(other)
                 before, kind = lasting(store), stat.S_IFMT(other.lstat().st_mode)
                 _, err = run("encode", "--replace", *names, store, source(place, "a", choose.randbytes(900)), status=1)
