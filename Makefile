@@ -41,9 +41,9 @@ COMMANDS := $(PROGRAMS) rebuild-lists
 FORM_PAGES := man/rebuild.5 man/rebuild-store.5
 
 # Proves the programs and the crates that they use, and builds crates/rebuild/out/rebuild and crates/rebuild_store/out/rebuild_store.
-# JOBS=N has it use N processors.
+# JOBS=N has it use N processors. BY=by-lib takes longer, and keeps what `rt check` goes on from.
 build:
-	@tools/build.py $(subst -,_,$(PROGRAMS)) $(CPU) $(JOBS)
+	@tools/build.py $(subst -,_,$(PROGRAMS)) $(CPU) $(JOBS) $(BY)
 	@$(MAKE) --no-print-directory notices
 
 # The notices of the crates of the toolchain that the programs and the library use.
@@ -54,11 +54,11 @@ notices:
 
 # The program that repairs stores alone.
 store:
-	@tools/build.py rebuild_store $(CPU) $(JOBS)
+	@tools/build.py rebuild_store $(CPU) $(JOBS) $(BY)
 
 # Builds the program of the sample alone.
 demo:
-	@tools/build.py rebuild $(CPU) $(JOBS)
+	@tools/build.py rebuild $(CPU) $(JOBS) $(BY)
 	@tools/demo.sh
 
 # Runs line mode on a few requests by the toolchain's interpreter, which takes one to two minutes and proves nothing.

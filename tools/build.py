@@ -6,18 +6,23 @@
     build.py lrc_c LEVEL [JOBS] by-ci
                                     builds the library over crates as `rt ci` proves them, as the gate does: with PROVED_IN=FOLDER, over
                                     those that a run of it has proved in that folder, of the same files
+    build.py NAME.. LEVEL [JOBS] by-lib
+                                    proves crates by `rt lib` and `rt run`, so that `rt check` and `rt must-fail` go on from there, and
+                                    after an edit only what that changes is proved
     build.py settle                 puts back what a build that was killed has left
 
 What is built is in the crate's out/LEVEL, with the record of its build; what was built last for a level of this processor is in its out/
 too. So a level that was built before isn't built again.
+
+Each crate is proved over libraries that hold the statements of those below it, and not their proofs: those are many times as long to load,
+of a whole build a quarter. What was checked isn't kept beside such a library, so that a crate is proved whole once it has changed.
 
 Crates are proved beside each other, each as soon as those that it uses are there. The two with the longest ways to the end, by the time
 that their lines take, have half of the processors each, and the others one each at a lower priority: with more jobs a proof takes more of
 the processors in all (lrc_field 138 s with one, 152 with two, 202 with four), and at much lower priorities what a crate of the longest way
 uses too is late. Where no more than two can be proved, or what else doesn't wait for the first takes less than it, the first has all. One
 more is proved than there are processors, so that a crate on a long way doesn't wait for one on a short way. A crate whose sources, and
-those of the crates below it, are as they were when it was proved is not proved again, and a build that was interrupted goes on where it
-was.
+those of the crates below it, are as they were when it was proved is not proved again, and a build that was interrupted goes on from there.
 
 `rt` locks every crate that it reads, so two crates above a third can't be proved at once in one place. So each is proved in a room
 of its own below out/: a copy of its sources and of those below it, with the libraries below it as hard links."""
@@ -40,9 +45,10 @@ ROOMS = ROOT / "out" / "rooms"
 # How many seconds whole builds took here, each on a line after the names of what was built.
 TIMES = ROOT / "out" / "build-times"
 PARTS = ("src", "specs", "proofs")
-# The word by which the crates below the library are taken as `rt ci` proves them. It also stands in place of their stamps, by which
-# `rt lib` knows its own work.
-BY_CI = "by-ci"
+# The words by which crates are taken as `rt ci` proves them, or are proved by `rt lib`.
+BY_CI, BY_LIB = "by-ci", "by-lib"
+# Stands, before a sum, in place of a library's stamp, by which `rt lib` knows its own work.
+STATEMENTS = "statements of"
 # The variable that names the folder in which a run of `rt ci` has proved the crates below the library, of the same files.
 PROVED_IN = "PROVED_IN"
 # What is in a crate's out/ beside the record of the build: the prover's work, the library, and what is built.
@@ -109,35 +115,39 @@ class Crate:
         """Where what was built last is found: for another kind of processor in the place of its own."""
         return self.built(level) if is_target(level) else self.folder / "out" / self.made()
 
-    def is_by_ci(self):
-        """Whether the library that is built of it is one that `rt ci` made."""
-        stamp = self.folder / "out/rlib/stamp"
-        return stamp.is_file() and stamp.read_text() == BY_CI
-
     def option(self, level):
         return f"--target={level}" if is_target(level) else f"--cpu={level}"
 
-    def command(self, level, jobs):
-        if self.is_static and any(it.is_by_ci() for it in self.below):
-            return self.command_by_ci(level, jobs)
-        verb = "run" if self.is_program else "lib"
-        # A program is run once it is built, with the arguments that the gate runs it with.
+    def arguments(self):
+        """Those that the gate runs a program with, which is run once it is built."""
         words = self.folder / "args"
-        given = ["--", *words.read_text().splitlines()] if self.is_program and words.is_file() else []
+        return words.read_text().splitlines() if words.is_file() else []
+
+    def command_by_lib(self, level, jobs):
+        """What proves it by `rt`, and builds it."""
+        verb = "run" if self.is_program else "lib"
+        given = ["--", *self.arguments()] if self.is_program else []
         return ["rt", verb, "--jobs", str(jobs), *([self.option(level)] if self.has_levels() else []), *given]
+
+    def commands(self, level, jobs):
+        """What proves it over libraries of statements, and builds it: commands, one after the other."""
+        build = self.prover("build", "..", jobs)
+        if not self.has_levels():
+            return [[*build, "--statements", "-o", f"out/rlib/{self.name}.rlib"]]
+        build += ["--toolchain", toolchain() / "toolchain", "--backend", "llvm", self.option(level), "--incremental", "out/incremental"]
+        if self.is_static:
+            return [[*build, "--crate-type", "staticlib", "-o", f"out/{self.made()}"]]
+        made = f"out/{self.made()}"
+        return [[*build, "-o", f"{made}.o"], linker(made, f"{made}.o"), [made, *self.arguments()]]
 
     def uses(self):
         """The crates that it uses, `std` among them."""
         return ["std", *self.line.partition(":")[2].split()]
 
     def prover(self, verb, crates, jobs):
-        """The prover's own words for this crate, a library."""
-        return prover(verb, (self.name, "src/lib.rt"), self.uses(), self.all_below(), crates, jobs)
-
-    def command_by_ci(self, level, jobs):
-        """The same of a static library over crates that `rt ci` built."""
-        words = [*self.prover("build", "..", jobs), "--crate-type", "staticlib", "--toolchain", toolchain() / "toolchain"]
-        return [*words, "--backend", "llvm", self.option(level), "--incremental", "out/incremental", "-o", f"out/{self.made()}"]
+        """The prover's own words for this crate."""
+        root = "src/main.rt" if self.is_program else "src/lib.rt"
+        return prover(verb, (self.name, root), self.uses(), self.all_below(), crates, jobs)
 
     @functools.lru_cache(maxsize=None)
     def inputs(self, root, level, kit):
@@ -173,6 +183,13 @@ def prover(verb, crate, uses, below, crates, jobs):
     for folder in [kit / "rlibs", *own.values()]:
         words += ["-L", f"dependency={folder}"]
     return [*words, "--antt-project", kit / "rattle/logic/antt-project.json", "--logic-built", kit / "logic_built"]
+
+
+def linker(program, *objects):
+    """The words that link a program, as `rt run` does."""
+    kit = toolchain()
+    words = [kit / "bin/rattle-link", "--target", "x86_64-unknown-linux-gnu", "--toolchain", kit / "toolchain", "-o", program, *objects]
+    return [*words, kit / "c/libos_c.a", kit / "c/liblibc_c.a"]
 
 
 @functools.lru_cache(maxsize=None)
@@ -237,17 +254,36 @@ def memory():
 class Run:
     """The proof of a crate in a room of its own."""
 
-    def __init__(self, crate, lock, level, jobs, rank, kit):
-        self.crate, self.lock, self.level, self.jobs, self.start = crate, lock, level, jobs, time.monotonic()
+    def __init__(self, crate, lock, level, jobs, rank, build):
+        self.crate, self.lock, self.level, self.jobs, self.rank, self.start = crate, lock, level, jobs, rank, time.monotonic()
         self.room = ROOMS / crate.name
         make_room(crate, self.room, level)
-        self.inputs = crate.inputs(self.room / "crates", level, kit)
+        self.inputs = crate.inputs(self.room / "crates", level, build.kit)
         self.said = self.room / "said"
+        self.commands = [crate.command_by_lib(level, jobs)] if build.is_by_lib else crate.commands(level, jobs)
+        self.has_statements = not build.is_by_lib and not crate.has_levels()
+        if self.has_statements:
+            # What is there isn't a whole library's place, which rt writes anew.
+            remove(self.made_in() / "rlib")
+            (self.made_in() / "rlib").mkdir()
+        self.begin()
+
+    def made_in(self):
+        return self.room / "crates" / self.crate.name / "out"
+
+    def begin(self):
+        """Starts the next command."""
         # The lock goes to what is started too, so that it is held until that ends, however this process ends.
-        how = {"cwd": self.room / "crates" / crate.name, "stdin": subprocess.DEVNULL, "pass_fds": [lock]}
-        with open(self.said, "w") as said:
-            how["preexec_fn"] = functools.partial(os.nice, NICER * rank)
-            self.process = subprocess.Popen(crate.command(level, jobs), stdout=said, stderr=subprocess.STDOUT, **how)
+        how = {"cwd": self.room / "crates" / self.crate.name, "stdin": subprocess.DEVNULL, "pass_fds": [self.lock]}
+        with open(self.said, "a") as said:
+            how["preexec_fn"] = functools.partial(os.nice, NICER * self.rank)
+            self.process = subprocess.Popen(self.commands.pop(0), stdout=said, stderr=subprocess.STDOUT, **how)
+
+    def has_ended(self):
+        """Whether all commands have ended, or one has failed; each is started once the one before it has ended well."""
+        while self.process.poll() == 0 and self.commands:
+            self.begin()
+        return self.process.poll() is not None
 
     def need(self):
         return FIRST + FURTHER * (self.jobs - 1)
@@ -258,10 +294,12 @@ class Run:
     def end(self):
         """Takes what was made out of the room, and gives back the lock; whether all is well, and what rt said."""
         said = self.said.read_text(errors="replace")
-        is_well = self.process.returncode == 0
+        is_well = self.process.returncode == 0 and not self.commands
         if is_well and self.crate.has_levels():
             self.crate.place(self.level).mkdir(exist_ok=True)
-            os.replace(self.room / "crates" / self.crate.name / "out" / self.crate.made(), self.crate.built(self.level))
+            os.replace(self.made_in() / self.crate.made(), self.crate.built(self.level))
+        elif is_well and self.has_statements:
+            (self.made_in() / "rlib/stamp").write_text(f"{STATEMENTS} {self.inputs}\n")
         leave_room(self.crate, self.room)
         if is_well:
             self.crate.write_record(self.inputs, self.level)
@@ -269,7 +307,7 @@ class Run:
         return is_well, said
 
     def stop(self):
-        """Ends the proof. What it has proved stays, and the next build goes on from there."""
+        """Ends the proof. The crates that are proved stay so, and the next build goes on from there."""
         self.process.terminate()
         self.process.wait()
         self.end()
@@ -378,8 +416,9 @@ def take_from_ci(crates, level, jobs, kit):
             library = it.folder / "out/rlib"
             remove(library)
             shutil.copytree(proved / "crates" / it.name / "out/rlib", library)
-            (library / "stamp").write_text(BY_CI)
-            it.write_record(it.inputs(room / "crates", level, kit), level)
+            inputs = it.inputs(room / "crates", level, kit)
+            (library / "stamp").write_text(f"{STATEMENTS} {inputs}\n")
+            it.write_record(inputs, level)
     for lock in locks:
         os.close(lock)
 
@@ -387,8 +426,8 @@ def take_from_ci(crates, level, jobs, kit):
 class Build:
     """The crates that are to be proved, and those that are being proved."""
 
-    def __init__(self, crates, level, jobs, kit):
-        self.level, self.jobs, self.kit = level, jobs, kit
+    def __init__(self, crates, level, jobs, kit, is_by_lib):
+        self.level, self.jobs, self.kit, self.is_by_lib = level, jobs, kit, is_by_lib
         self.inputs = {it: it.inputs(ROOT / "crates", level, kit) for it in crates}
         self.left = [it for it in crates if not it.is_built(self.inputs[it], level)]
         self.done = [it for it in crates if it not in self.left]
@@ -423,7 +462,7 @@ class Build:
                 self.waits.add(crate)
                 continue
             self.left.remove(crate)
-            self.running.append(Run(crate, lock, self.level, jobs, rank, self.kit))
+            self.running.append(Run(crate, lock, self.level, jobs, rank, self))
 
     def say(self, line):
         """Says a line, in the place of that on what runs."""
@@ -460,7 +499,7 @@ class Build:
             while self.left or self.running:
                 self.start_all()
                 self.say_running()
-                ended = [it for it in self.running if it.process.poll() is not None]
+                ended = [it for it in self.running if it.has_ended()]
                 for run in ended:
                     self.end(run)
                 if not ended:
@@ -510,24 +549,24 @@ def show(tops, level):
     return " and ".join(str(top.last_built(level).relative_to(ROOT)) for top in tops)
 
 
-def main(names, level, jobs, is_by_ci):
+def main(names, level, jobs, how):
     start = time.monotonic()
     crates = read_crates()
     tops = [crates[name] for name in names]
-    if is_by_ci and not all(it.is_static for it in tops):
+    if how == BY_CI and not all(it.is_static for it in tops):
         stop(f"{BY_CI} is for the library alone")
     lock = lock_of(ROOT / "crates")
     if lock is None:
         stop("another build runs here: wait for its end")
     settle(crates)
     kit = subprocess.run(["rt", "version"], check=True, capture_output=True, text=True).stdout
-    if is_by_ci:
-        # What is built over such libraries is no other build's.
-        kit += BY_CI
+    # What is built over one kind of libraries is no other build's.
+    kit += how
+    if how == BY_CI:
         below = [it for it in with_all_below(tops) if it not in tops]
         if not all(it.is_built(it.inputs(ROOT / "crates", level, kit), level) for it in below):
             take_from_ci(below, level, jobs, kit)
-    build = Build(with_all_below(tops), level, jobs, kit)
+    build = Build(with_all_below(tops), level, jobs, kit, how == BY_LIB)
     if not build.left:
         print(f"Nothing has changed since this was built for {level}: {show(tops, level)}")
         return
@@ -537,7 +576,7 @@ def main(names, level, jobs, is_by_ci):
     else:
         seen = times().get(" ".join(names))
         print(f"The whole took {minutes(seen)} here before." if seen else "README says how long it was seen to take.",
-              "After a change what changed is proved.")
+              "After a change the crates are proved that it changes, and those above them.")
     sys.stdout.flush()
     is_whole = not build.done
     try:
@@ -556,13 +595,14 @@ if __name__ == "__main__":
     if sys.argv[1:] == ["settle"]:
         settle(read_crates())
         sys.exit()
-    words = [it for it in sys.argv[1:] if it != BY_CI]
+    how = sys.argv.pop() if sys.argv[-1] in (BY_CI, BY_LIB) else ""
+    words = sys.argv[1:]
     jobs = int(words.pop()) if words and words[-1].isdecimal() else processors()
     if len(words) > 1 and all(it in read_crates() for it in words[:-1]):
         try:
-            main(words[:-1], words[-1], jobs, BY_CI in sys.argv)
+            main(words[:-1], words[-1], jobs, how)
         except KeyboardInterrupt:
-            print("\nbuild: stopped; what is proved stays, and the next build goes on from there", file=sys.stderr)
+            print("\nbuild: stopped; the crates that are proved stay so, and the next build goes on from there", file=sys.stderr)
             sys.exit(130)
     else:
         sys.exit(__doc__)

@@ -100,7 +100,7 @@ def verdicts(said):
 
 def prove(names, level):
     """Proves these crates and those below; what is proved stays where it is stopped."""
-    process = subprocess.Popen([ROOT / "tools/build.py", *names, level])
+    process = subprocess.Popen([ROOT / "tools/build.py", *names, level, build.BY_LIB])
     try:
         status = process.wait()
     finally:
