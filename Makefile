@@ -166,8 +166,8 @@ try-ceph-releases: store
 
 # What the gate runs after the proofs, over the programs and tests that they leave in each crate's out/. No two of these share a file
 # that one of them writes, so several run at once, first those that take long.
-AFTER := ceph/test.sh $(addprefix gate/,store-faults.py file-faults.py refusals.py store-strangers.py store-files.py store-damage.py \
-  packages.sh store-watching.py store-sharing.py repair-store.py encode-store.py store-life.py store-options.py store-arguments.py \
+AFTER := ceph/test.sh $(addprefix gate/,store-files.py store-strangers.py refusals.py store-faults.py file-faults.py encode-store.py \
+  store-damage.py repair-store.py store-watching.py store-sharing.py packages.sh store-life.py store-options.py store-arguments.py \
   store-results.py store-names.py store-records.py store-disks.py no-compile.py reference-lines.sh line-mode.py answers.py codes.py \
   arguments.py lists.py farm-folders.py farm-calls.py farm-batches.py farm-shelves.py ends.sh examples.py manual.sh completions.sh \
   install.sh version.sh numbers.py tables.py growth.py memory.py) tools/demo.sh

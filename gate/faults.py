@@ -10,6 +10,7 @@ import os
 import pathlib
 import struct
 import subprocess
+import tempfile
 
 import runs
 
@@ -75,15 +76,23 @@ class Ended:
         return f"status {self.status}: {self.out[-300:]!r} {self.err[-600:]!r}"
 
 
+@functools.cache
+def built():
+    """The bytes of fail-call.c's library, which is built once for all the folders that get it."""
+    compiler, flags = os.environ.get("CC", "gcc"), ["-O2", "-Wall", "-shared", "-fPIC"]
+    with tempfile.TemporaryDirectory() as folder:
+        library = pathlib.Path(folder) / "fail-call.so"
+        subprocess.run([compiler, *flags, "-o", library, ROOT / "gate/fail-call.c"], check=True)
+        return library.read_bytes()
+
+
 class Calls:
-    """fail-call.c, built into a folder. With `forks` the runs of a program share a start."""
+    """The library of fail-call.c in a folder. With `forks` the runs of a program share a start."""
 
     def __init__(self, folder, forks=False):
         self.folder = folder
         self.file = folder / "fail-call.so"
-        compiler = os.environ.get("CC", "gcc")
-        flags = ["-O2", "-Wall", "-shared", "-fPIC"]
-        subprocess.run([compiler, *flags, "-o", self.file, ROOT / "gate/fail-call.c"], check=True)
+        self.file.write_bytes(built())
         self.library = runs.Preloaded(self.file, "FAIL_RECORD", RECORD_SIZE, forks)
 
     def run(self, words, number=0, how="", rest="", output=None):

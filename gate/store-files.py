@@ -150,6 +150,19 @@ def test_list(place, choose):
     hold(out.decode().splitlines()[0] == "whole - 6-2-2 9/10 a" or out.decode().splitlines()[0] == "degraded - 6-2-2 9/10 a", out)
 
 
+def test_code_that_most_stripes_have(place, choose):
+    """The code of a store with stripes of both is the one that the descriptions of most stripes say, however many copies these have."""
+    names, store, other = ["--names", "{place}/{stripe}"], place / "store", place / "other"
+    files = {name: source(place, name, choose.randbytes(100)) for name in ("n0", "n1", "n2", "w0", "w1")}
+    for folder, code, letter in ((store, "6-2-2", "n"), (other, "12-2-2", "w")):
+        some = [path for name, path in files.items() if name[0] == letter]
+        run("encode", "--make-folders", "--code", code, *names, folder, *some, status=0)
+        (folder / "SHA256SUMS").unlink()
+    shutil.copytree(other, store, dirs_exist_ok=True)
+    out, _ = run("list", *names, store, status=0)
+    hold(out.startswith(b"".join(b"whole 100 6-2-2 10/10 n%d\n" % number for number in range(3)) + b"lost "), out)
+
+
 def test_cut_to_nothing(place, choose):
     """A file all of whose fragments were cut to nothing isn't whole: the sums say so."""
     store = place / "store"
@@ -1664,6 +1677,15 @@ def test_descriptions_from_digests(place, choose):
         run("verify", store, "a", status=1)
         run("repair", store, status=0)
         hold(not (store / "a.file").exists(), f"{length}: a description was made of which nothing is known")
+    # Beside fragments in another folder it is made of those in the store.
+    store, to, data = place / "store", place / "to", choose.randbytes(6_001)
+    to.mkdir()
+    run("encode", store, source(place, "a", data), status=0)
+    lost = {name: (store / name).read_bytes() for name in ("a.x0", "a.file", "a.file.copy")}
+    for name in lost:
+        (store / name).unlink()
+    run("repair", store, "--to", to, status=0)
+    hold(there(to) == lost, f"made {sorted(there(to))}")
 
 
 def test_rights_of_descriptions_from_digests(place, choose):

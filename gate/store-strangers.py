@@ -187,6 +187,17 @@ def test_report_keeps_rights(place, choose):
         hold(there(place / "open") == {report.name: HEADER.encode()}, f"{there(place / 'open')}")
 
 
+def test_report_of_a_part_without_stripes(place, choose):
+    """A part of a store that has none of its stripes is repaired, also if its report takes the place of what may be a fragment."""
+    store = place / "without-stripes"
+    lay(store, choose)
+    for part in ("1/2", "2/2"):
+        report = place / f"part-{part[0]}.csv"
+        report.write_bytes(bytes(600))
+        run("repair", store, "--part", part, "--report", report, status=0)
+        hold(report.read_text() == HEADER, f"{part}: the report is {report.read_text()[:80]!r}")
+
+
 def test_report_while_it_is_made(place, choose):
     """What is to take the place of a report that nobody else may read can't be read by others before, and what comes at a report's path
     meanwhile is written as it is."""
@@ -789,6 +800,8 @@ def test_runs_of_one_part(place, choose):
     part = next(part for part in ("1/2", "2/2") if has_lost(store, part))
     command = [PROGRAM, "repair", store, "--part", part]
     lock = store / f".rebuild-store-part-{part.replace('/', '-of-')}"
+    # So that the run opens it, as the one does which is to wait once it has.
+    lock.touch()
     ran = calls.run(command)
     hold(ran.status == 0 and lost.read_bytes() == files["s.x0"], ran.text())
     locks = [number for number, kind in enumerate(ran.kinds, 1) if kind == "lock"]
@@ -846,6 +859,22 @@ def test_names_like_ours(place, choose):
     source.write_bytes(b"source")
     hold("can't have this name" in run("encode", store, source, status=1), "a file of such a name was encoded")
     hold(not at_work.exists(), "what was left isn't removed by encode")
+
+
+def test_names_of_unfinished_files(place, choose):
+    """The name of an unfinished file has its run's part, process and host, so that those of other runs know whose it is."""
+    store, calls, host = place / "unfinished", Calls(place), re.escape(os.uname().nodename)
+    lay(store, choose)
+    for words, part in (([], ""), (["--part", "1/1"], "1-1-")):
+        command = [PROGRAM, "repair", store, *words]
+        (store / "s.x0").unlink()
+        link = calls.run(command).kinds.index("link") + 1
+        (store / "s.x0").unlink()
+        hold(calls.run(command, link, "kill").status == -signal.SIGKILL, "the run wasn't killed")
+        left = [name for name in there(store) if name.startswith(".rebuild-store-") and "part" not in name]
+        named = re.fullmatch(rf"\.rebuild-store-{part}\d+@{host}-[0-9a-f]{{16}}", " ".join(left))
+        hold(named, f"a run of part {words} left {left}")
+        run(*command[1:], status=0)
 
 
 def test_leftovers_of_another_folder(place, choose):
@@ -1845,6 +1874,21 @@ def test_descriptions_in_one_folder(place, choose):
             (store / name).write_bytes(b"odd")
         said = run("scrub", store, *names, status=1)
         hold(all(f"{name}: isn't a line with" in said for name in copies), f"copies that say nothing are passed over: {said}")
+
+
+def test_short_stripe_named_like_a_description(place, choose):
+    """A stripe that has the name of another one's descriptions, and fragments as short as these, is one where they describe nothing."""
+    for name, names in (("shards", DISKS), ("places", ["--code", "6-2-2", "--names", "{place}/{stripe}"])):
+        store = place / f"short-{name}"
+        files = lay_disks(store, choose, ("data.file",), length=40)
+        if name == "places":
+            for number, one in enumerate(("x0", "x1", "x2", "y0", "y1", "y2", "px", "py", "p0", "p1")):
+                (store / f"disk{number}").rename(store / one)
+            files = below(store)
+        lost = next(iter(files))
+        (store / lost).unlink()
+        run("repair", store, *names, status=0)
+        hold(below(store) == files, f"{lost}: a stripe of such a name wasn't repaired")
 
 
 def test_names_like_descriptions(place, choose):
