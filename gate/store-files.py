@@ -1360,20 +1360,95 @@ def test_remove_by_the_name_of_a_description(place, choose):
 
 
 def test_remove_where_the_digests_cannot_be_written(place, choose):
-    """A file that stays, since the digests can't be written once, keeps its digests where they are written for the next one."""
+    """A file that stays, since the digests can't be written once, keeps its digests, also where they are written for the next one."""
     calls, first = Calls(place), place / "first"
     run("encode", first, source(place, "a", choose.randbytes(600)), source(place, "b", b"b"), status=0)
     shutil.copytree(first, place / "count")
     kinds = calls.run([PROGRAM, "remove", place / "count", "a", "b"]).kinds
     for number in range(1, kinds.index("unlink") + 1):
         if kinds[number - 1] in ("create", "write", "sync", "rename"):
+            for names in (["a", "b"], ["a"]):
+                store = place / f"failing-{number}-{len(names)}"
+                shutil.copytree(first, store)
+                ended = calls.run([PROGRAM, "remove", store, *names], number, 28)
+                where = f"{names}, call {number}, {kinds[number - 1]}: {ended.text()}"
+                said = "removed 1 file; not removed: 1" if "b" in names else "removed 0 files; not removed: 1"
+                hold(ended.status == 3 and said in ended.out, where)
+                left = {"a", "SHA256SUMS"} if "b" in names else {"a", "b", "SHA256SUMS"}
+                hold({it.split(".")[0] for it in there(store)} == left, f"{where}: {sorted(there(store))}")
+                hold(are_right(store), f"{where}: {sorted(sums_of(store))}")
+
+
+def test_remove_beside_an_odd_fragment(place, choose):
+    """What has the name of a fragment and is no regular file stays, and keeps nothing else of the file, or of what was to replace it."""
+    odd = {"folder": pathlib.Path.mkdir, "link": lambda path: path.symlink_to(place / "none"), "FIFO": os.mkfifo}
+    for kind, make in odd.items():
+        for pattern, path in (("{stripe}.{place}", "a.y0"), ("{stripe}/{place}", "a/y0")):
+            store, _, _ = begun_replacement(place, choose, "--names", pattern)
+            run("encode", "--make-folders", "--names", pattern, store, source(place, "b", b"b"), status=0)
+            (store / path).unlink()
+            make(store / path)
+            words = ["--names", pattern, "--code", "6-2-2", store, "a"]
+            for _turn in range(2):
+                out, err = run("remove", *words, status=1)
+                where = f"{kind}, {pattern}: {err}{out}"
+                hold(f"{path}: is no regular file, and isn't removed" in err and out == b"removed 0 files; not removed: 1\n", where)
+                left = {str(it.relative_to(store)) for it in store.rglob("*")}
+                left = {it for it in left if it[0] == "a"}
+                hold(left == {path, path.rpartition("/")[0] or path} and are_right(store), f"{where}: left {sorted(left)}")
+            shutil.rmtree(store / path) if kind == "folder" else (store / path).unlink()
+            _, err = run("remove", *words, status=1)
+            hold("a: is no file of the store" in err, f"{kind}, {pattern}: {err}")
+            shutil.rmtree(store)
+
+
+def test_remove_where_a_disk_fails(place, choose):
+    """A file that something still describes has its digests: where a description can't be taken out, they are written again. Where only
+    fragments stay, what was to replace the file goes too. The same command ends the work once the disk can be written."""
+    calls, tried = Calls(place), set()
+    for begins in (False, True):
+        if begins:
+            first, _, data = begun_replacement(place, choose, *DISKS)
+        else:
+            first, data = place / "first", choose.randbytes(600)
+            run("encode", "--make-folders", *DISKS, first, source(place, "a", data), status=0)
+        run("encode", *DISKS, first, source(place, "b", b"b"), status=0)
+        # Also what was to replace the file has its digests.
+        whole = {name: data for name, data in there(first).items() if name != "SHA256SUMS"}
+        lines = {name: hashlib.sha256(whole[name]).hexdigest() for name in sorted(whole)}
+        (first / "SHA256SUMS").write_text("".join(f"{line}  {name}\n" for name, line in lines.items()))
+        count = place / "count"
+        shutil.copytree(first, count)
+        kinds = calls.run([PROGRAM, "remove", *CODED, count, "a"]).kinds
+        shutil.rmtree(count)
+        for number in range(kinds.index("unlink") + 1, len(kinds) + 1):
+            if kinds[number - 1] not in ("unlink", "sync"):
+                continue
             store = place / f"failing-{number}"
             shutil.copytree(first, store)
-            ended = calls.run([PROGRAM, "remove", store, "a", "b"], number, 28)
-            where = f"call {number}, {kinds[number - 1]}: {ended.text()}"
-            hold(ended.status == 3 and "removed 1 file; not removed: 1" in ended.out, where)
-            hold({it.split(".")[0] for it in there(store)} == {"a", "SHA256SUMS"}, f"{where}: {sorted(there(store))}")
-            hold(are_right(store), f"{where}: {sorted(sums_of(store))}")
+            # What is at that path isn't taken out, whatever else could be.
+            ended = calls.run([PROGRAM, "remove", *CODED, store, "a"], number, 30, "path")
+            where = f"{begins}, call {number}, {kinds[number - 1]}: {ended.text()}"
+            hold(ended.status == 3 and "removed 0 files; not removed: 1" in ended.out, where)
+            left = {it for it in there(store) if it.split("/")[-1].startswith("a")}
+            for stripe in ("a", f"a{STAGED}"):
+                names = {it for it in whole if it.split("/")[-1] in (stripe, f"{stripe}.file")}
+                is_described = any(it.endswith(f"{stripe}.file") for it in left & names)
+                kept = {name: line for name, line in lines.items() if name in names}
+                found = {name: line for name, line in sums_of(store).items() if name in names}
+                hold(found == (kept if is_described else {}), f"{where}: {stripe}: lines of {sorted(found)}, left {sorted(left)}")
+                tried.add((begins, stripe, is_described, bool(left & names)))
+            if any(it.endswith(".file") for it in left):
+                hold(run("read", *DISKS, store, "a", status=0)[0] == data, f"{where}: another file is read")
+            hold(sums_of(store).keys() >= {it for it in lines if it.endswith(("/b", "/b.file"))}, f"{where}: digests of another are gone")
+            again = ran("remove", *CODED, store, "a")
+            hold(again.returncode == 0 or (not left and b"a: is no file of the store" in again.stderr), f"{where}: {again.stderr!r}")
+            hold({it.split("/")[-1] for it in there(store)} == {"b", "b.file", "SHA256SUMS"} and are_right(store), f"{where}: not ended")
+            shutil.rmtree(store)
+        shutil.rmtree(first)
+    for what in ((False, "a", True, True), (False, "a", False, True), (True, "a", True, True), (True, "a", False, True),
+                 (True, f"a{STAGED}", True, True), (True, f"a{STAGED}", False, False)):
+        hold(what in tried, f"not tried: {what}: {sorted(tried)}")
 
 
 def test_standard_input(place, choose):

@@ -1,6 +1,6 @@
 //! Taking files out of a store. The digests go first, so that nothing is expected of the file any more, then its descriptions, then its
 //! fragments: what a run that was killed has left is a file that can still be read, or fragments that the same command removes. What was to
-//! replace the file goes last.
+//! replace the file goes last. Where a description can't be taken out, the file can still be read, and gets its digests back.
 ghost use Rattle.std.specs.Prelude.{◌≡◌, ℕ, List, Option};
 ghost use Rattle.store_folder.specs.Written.{Puts};
 ghost use Rattle.store_encoding.specs.Digests.{KeepsDigests};
@@ -15,10 +15,10 @@ use crate::taking::take_files;
 use folders::Folder;
 use std::alloc::{AllocError, Global};
 use std::io::ErrorKind;
-use store_faults::{FileFault, device};
+use store_faults::{FileFault, device, say};
 use store_files::{Target, is_there, no_stored, own_description, refuse_linked, staged_name};
 use store_folder::{
-    SystemFolder, description_names, is_absent, is_description_name, read_description,
+    Digest, Sums, SystemFolder, description_names, is_absent, is_description_name, read_description,
 };
 use store_repair::NameFault;
 
@@ -34,9 +34,7 @@ pub fn remove_stored(
         return Err(no_stored(alloc, name, target.folder)?);
     }
     let staged = staged_name(alloc, name)?;
-    remove_files(rt, target, name, staged.as_str())?;
-    remove_own_folders(rt, target, staged.as_str(), name)?;
-    Ok(remove_own_folders(rt, target, name, staged.as_str())?)
+    remove_files(rt, target, name, staged.as_str())
 }
 
 /// Whether a description of another file has the name of one of a stripe's fragments, as `disk3/a.file` is of a file `a`.
@@ -74,7 +72,7 @@ fn remove_files(
 ) -> Result<(), FileFault> {
     let old = files_of(rt, target, name)?;
     match files_of(rt, target, staged) {
-        Ok(new) => remove_both(rt, target, name, &old, &new),
+        Ok(new) => remove_both(rt, target, name, staged, &old, &new),
         Err(fault) => Err(fault),
     }
 }
@@ -91,11 +89,84 @@ fn files_of(rt: &HostRuntime, target: &Target<'_>, stripe: &str) -> Result<Strip
     }
 }
 
-/// Takes the files of these names out of a store, and their digests; refuses the file of a name of which none is there. Those of a new file
-/// that was to replace the old one go last: while it can be read it is what is read, and an old one would be again without it.
+/// A stripe's files, and what the store's digests say of them.
+#[derive(Drop)]
+struct Listed<'n> {
+    files: &'n StripeFiles,
+    digests: Vec<(&'n str, Digest)>,
+}
+
+impl<'n> Listed<'n> {
+    /// A stripe's files, with what these digests say of them.
+    fn of(alloc: Global, sums: &Sums, files: &'n StripeFiles) -> Result<Listed<'n>, AllocError> {
+        let mut digests = Vec::new(alloc);
+        for names in [files.descriptions.as_slice(), files.fragments.as_slice()] {
+            for name in names {
+                if let Some(digest) = sums.digest_of(name.as_str()) {
+                    digests.push((name.as_str(), *digest))?;
+                }
+            }
+        }
+        Ok(Listed { files, digests })
+    }
+
+    /// Takes the digests of the files out of those of the store.
+    fn forget(&self, target: &mut Target<'_>) {
+        forget_digests(target, self.files.descriptions.as_slice());
+        forget_digests(target, self.files.fragments.as_slice());
+    }
+
+    /// Adds the digests to those of the store again.
+    fn add_again(&self, alloc: Global, target: &mut Target<'_>) -> Result<(), AllocError> {
+        for (name, digest) in &self.digests {
+            target.sums.set(alloc, *name, *digest)?;
+            target.is_changed = true;
+        }
+        Ok(())
+    }
+
+    /// Whether something has the name of one of the stripe's descriptions, or may have it, since that can't be looked at.
+    fn may_be_described(&self, rt: &HostRuntime, target: &Target<'_>) -> bool {
+        let has_some = has_any(rt, target, self.files.descriptions.as_slice());
+        !matches!(&has_some, Ok(false))
+    }
+
+    /// Adds the digests again if something may still describe the stripe.
+    fn add_described(&self, rt: &HostRuntime, target: &mut Target<'_>) -> Result<(), AllocError> {
+        if self.may_be_described(rt, target) {
+            self.add_again(rt.alloc(), target)?;
+        }
+        Ok(())
+    }
+}
+
+/// Takes the files of two stripes out of a store, their digests, and the folders that they had alone. These go too where fragments stay
+/// that couldn't be taken out, as far as nothing is in them: once those are gone, the store has no file of the name that could be removed.
 fn remove_both(
     rt: &HostRuntime,
     target: &mut Target<'_>,
+    name: &str,
+    staged: &str,
+    old: &StripeFiles,
+    new: &StripeFiles,
+) -> Result<(), FileFault> {
+    refuse_absent(rt, target, name, old, new)?;
+    let old = Listed::of(rt.alloc(), &target.sums, old)?;
+    let new = Listed::of(rt.alloc(), &target.sums, new)?;
+    let taken = take_listed(rt, target, &old, &new);
+    let are_gone = taken.is_ok()
+        || !(old.may_be_described(rt, target) || new.may_be_described(rt, target));
+    if are_gone {
+        remove_own_folders(rt, target, staged, name)?;
+        remove_own_folders(rt, target, name, staged)?;
+    }
+    taken
+}
+
+/// Refuses the file of a name if a folder on the way to one of its files is a link, unless links are followed, or if none of them is there.
+fn refuse_absent(
+    rt: &HostRuntime,
+    target: &Target<'_>,
     name: &str,
     old: &StripeFiles,
     new: &StripeFiles,
@@ -106,47 +177,94 @@ fn remove_both(
         new.descriptions.as_slice(),
         new.fragments.as_slice(),
     ];
-    let mut is_stored = false;
     for names in lists {
         refuse_linked(rt, target, names)?;
     }
     for names in lists {
-        is_stored = is_stored || has_any(rt, target, names)?;
+        if has_any(rt, target, names)? {
+            return Ok(());
+        }
     }
-    if !is_stored {
-        return Err(no_stored(rt.alloc(), name, target.folder)?);
-    }
-    let files = &mut SystemFolder::new(rt);
-    write_without(rt, files, target, &lists)?;
-    take_out(rt, files, target, lists[0], lists[1])?;
-    take_out(rt, files, target, lists[2], lists[3])
+    Err(no_stored(rt.alloc(), name, target.folder)?)
 }
 
-/// Writes the digests without those of the files of some names. Where they can't be written, the files stay, and so do their digests.
+/// Writes the digests without those of two stripes' files, and takes these out. Where something still describes a stripe then, its digests
+/// are written again: it is a file that can be read, until the same command takes it out.
+fn take_listed(
+    rt: &HostRuntime,
+    target: &mut Target<'_>,
+    old: &Listed<'_>,
+    new: &Listed<'_>,
+) -> Result<(), FileFault> {
+    let files = &mut SystemFolder::new(rt);
+    write_without(rt, files, target, old, new)?;
+    match take_both(rt, files, target, old.files, new.files) {
+        Ok(()) => Ok(()),
+        Err(fault) => {
+            if let Err(other) = write_again(rt, files, target, old, new) {
+                let _ = say(rt, format!(in rt.alloc(); "rebuild-store: {other}"));
+            }
+            Err(fault)
+        }
+    }
+}
+
+/// Writes the digests without those of two stripes' files. Where they can't be written, the files stay, and so do their digests.
 fn write_without(
     rt: &HostRuntime,
     files: &mut SystemFolder<'_>,
     target: &mut Target<'_>,
-    lists: &[&[String]],
+    old: &Listed<'_>,
+    new: &Listed<'_>,
 ) -> Result<(), FileFault> {
-    let alloc = rt.alloc();
-    let mut forgotten = Vec::new(alloc);
-    for names in lists {
-        for name in *names {
-            if let Some(digest) = target.sums.digest_of(name.as_str()) {
-                forgotten.push((name.as_str(), *digest))?;
-            }
+    old.forget(target);
+    new.forget(target);
+    match write_new_sums(rt, files, target) {
+        Ok(()) => {
+            target.is_changed = false;
+            Ok(())
         }
-        forget_digests(target, *names);
-    }
-    if let Err(fault) = write_new_sums(rt, files, target) {
-        for (name, digest) in &forgotten {
-            target.sums.set(alloc, *name, *digest)?;
+        Err(fault) => {
+            old.add_again(rt.alloc(), target)?;
+            new.add_again(rt.alloc(), target)?;
+            // Where only their name couldn't be written to the disk, they are the new ones.
+            let _ = write_new_sums(rt, files, target);
+            Err(fault)
         }
-        return Err(fault);
     }
+}
+
+/// Writes the digests with those of the stripes that may still be described.
+fn write_again(
+    rt: &HostRuntime,
+    files: &mut SystemFolder<'_>,
+    target: &mut Target<'_>,
+    old: &Listed<'_>,
+    new: &Listed<'_>,
+) -> Result<(), FileFault> {
+    old.add_described(rt, target)?;
+    new.add_described(rt, target)?;
+    write_new_sums(rt, files, target)?;
     target.is_changed = false;
     Ok(())
+}
+
+/// Takes a stripe's files out of a store, and then those that were to replace them: while the new file can be read it is what is read, and
+/// the old one would be again without it. So what was to replace the stripe stays unless all of the old descriptions are gone. Fragments
+/// of the old file that stay keep nothing else, since nothing describes them any more. Gives the first fault.
+fn take_both(
+    rt: &HostRuntime,
+    files: &mut SystemFolder<'_>,
+    target: &mut Target<'_>,
+    old: &StripeFiles,
+    new: &StripeFiles,
+) -> Result<(), FileFault> {
+    let (descriptions, fragments) = (old.descriptions.as_slice(), old.fragments.as_slice());
+    let taken = take_out(rt, files, target, descriptions, fragments)?;
+    let (descriptions, fragments) = (new.descriptions.as_slice(), new.fragments.as_slice());
+    let replaced = take_out(rt, files, target, descriptions, fragments);
+    taken?;
+    replaced?
 }
 
 /// The names of a stripe's descriptions that go with it.
@@ -163,20 +281,21 @@ fn names_of_descriptions(
 }
 
 /// Writes the digests that are left, and takes the files of some descriptions and fragments away. Whenever that ends, each of them has what
-/// it had, or nothing, the digests' path has what it had, or all of their text, and no other path has changed but temporary ones.
+/// it had, or nothing, the digests' path has what it had, or all of their text, and no other path has changed but temporary ones. The inner
+/// fault is that of a fragment: then each of the descriptions is gone, also on the disk.
 fn take_out<F: Folder>(
     rt: &HostRuntime,
     files: &mut F,
     target: &mut Target<'_>,
     descriptions: &[String],
     fragments: &[String],
-) -> Result<(), FileFault>
+) -> Result<Result<(), FileFault>, FileFault>
     ensures { (text : Option (List ℕ)) × Puts (IsTakenOut target.old.folder.now text descriptions.now fragments.now) (F.calls files.old)
         (F.calls files.new) × IsTextOf target.old.sums text }
 {
     write_new_sums(rt, files, target)?;
     remove_names(rt, files, target, descriptions)?;
-    remove_names(rt, files, target, fragments)
+    Ok(remove_names(rt, files, target, fragments))
 }
 
 /// Whether there is anything under one of some names.
