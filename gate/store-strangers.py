@@ -1323,6 +1323,13 @@ def test_folder_that_is_not_synced(place, choose):
         path.unlink()
     ended = calls.run(command, synced[-2], errno.EIO)
     hold(ended.status == 3 and pathlib.Path(ended.paths[0]).is_dir() and ended.kinds.count("sync") == len(synced), ended.text())
+    # Each that can't be written is said, once, of the stripe whose fragments are in it.
+    for path in lost:
+        path.unlink()
+    ended = calls.run(command, synced[-2], errno.EIO, "kind")
+    said = sorted(line for line in ended.err.splitlines() if "isn't known to be on the disk" in line)
+    want = [f"a: was left over, or isn't known to be on the disk: {path.parent}: Input/output error" for path in lost]
+    hold(ended.status == 3 and said == sorted(want), ended.text())
 
 
 def test_folder_above_a_disk(place, choose):

@@ -17,6 +17,8 @@ use stores::NameFault;
 #[derive(Drop)]
 pub struct Touched {
     pub folders: Vec<String>,
+    /// Of the last time, what is still to be said of folders that couldn't be written.
+    unsaid: Vec<NameFault>,
 }
 
 impl Touched {
@@ -24,6 +26,7 @@ impl Touched {
     pub fn new(alloc: Global) -> Touched {
         Touched {
             folders: Vec::new(alloc),
+            unsaid: Vec::new(alloc),
         }
     }
 
@@ -38,14 +41,18 @@ impl Touched {
         Ok(())
     }
 
-    /// Writes the names in these folders to the disk. One that can't be written keeps no other from being written.
+    /// Writes the names in these folders to the disk. One that can't be written keeps no other from being written; each further one is said
+    /// by a call more.
     pub fn sync<F: Folder>(&mut self, files: &mut F) -> Result<(), NameFault>
         ensures whenever { KeepsEach (F.calls files.old) (F.calls files.new) }
         ensures done { OnOk result ((path bytes : List ℕ) → is_temporary path ≡ false
             → IsDue self.old.folders.items (F.calls files.old) path bytes → IsOnDisk path bytes (F.calls files.new)) }
     {
         match self.sync_until_fault(files) {
-            Ok(()) => Ok(()),
+            Ok(()) => match self.unsaid.pop() {
+                Some(fault) => Err(fault),
+                None => Ok(()),
+            },
             Err(fault) => {
                 self.sync_rest(files);
                 Err(fault)
@@ -65,12 +72,14 @@ impl Touched {
         Ok(())
     }
 
-    /// Writes what is left after a fault, which is said.
+    /// Writes what is left after a fault, which is said first. Where there is no memory to keep another one, that isn't said.
     fn sync_rest<F: Folder>(&mut self, files: &mut F)
         ensures { KeepsEach (F.calls files.old) (F.calls files.new) }
     {
         'folders: while let Some(name) = self.folders.pop() {
-            let _ = sync_names_of(files, name);
+            if let Err(fault) = sync_names_of(files, name) {
+                let _ = self.unsaid.push(fault);
+            }
         }
     }
 }

@@ -22,6 +22,9 @@ use std::alloc::{AllocError, Global};
 use std::io;
 use stores::{Found, Placed, Store, Stripe};
 
+/// How often a store is asked at most what else is left over of a stripe: for the folder of each other fragment, for a file, and once more.
+const MOST_FAULTS: usize = 17;
+
 /// What is done with a rebuilt fragment.
 #[derive(Drop)]
 enum Way {
@@ -98,8 +101,28 @@ pub(crate) fn settle<S: Store>(store: &mut S, findings: &mut Vec<Finding>) -> Re
 {
     match store.settle() {
         Ok(()) => Ok(()),
-        Err(fault) => note(findings, None, Reason::Unsettled(fault)),
+        Err(fault) => {
+            note(findings, None, Reason::Unsettled(fault))?;
+            settle_rest(store, findings)
+        }
     }
+}
+
+/// Notes what else is left over, which each further call says, once a fault was noted.
+fn settle_rest<S: Store>(store: &mut S, findings: &mut Vec<Finding>) -> Result<(), AllocError>
+    ensures same { S.files store.new ≡ S.files store.old }
+    ensures named { OnOk result (named findings.new.items ≡ named findings.old.items) }
+    ensures some { OnOk result (findings.old.items ≢ [] → findings.new.items ≢ []) }
+    ensures kept { (stripe : List ℕ) (given : Given) (from : S) → S.kept stripe given from store.old → S.kept stripe given from store.new }
+    ensures unsettled { OnOk result (is_unsettled findings.old.items ≡ true → is_unsettled findings.new.items ≡ true) }
+{
+    'faults: for _more in 0..MOST_FAULTS {
+        match store.settle() {
+            Ok(()) => return Ok(()),
+            Err(fault) => note(findings, None, Reason::Unsettled(fault))?,
+        }
+    }
+    Ok(())
 }
 
 /// What is done with a rebuilt fragment under whose name something was found. Only a fragment that no fault kept from being read is

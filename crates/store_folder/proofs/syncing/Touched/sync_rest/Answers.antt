@@ -7,8 +7,11 @@ folders-init g c = keeps_all _ _ _
 pub folders-preserved : goal.folders-preserved
 folders-preserved g c = keeps_after _ _ _ _ _ c.folders.invariant c.sync_names_of.ensures.whenever
 
-pub folders-preserved-in-Some : goal.folders-preserved-in-Some
-folders-preserved-in-Some g c = keeps_after _ _ _ _ _ c.folders.invariant c.sync_names_of.ensures.whenever
+pub folders-preserved-in-Err : goal.folders-preserved-in-Err
+folders-preserved-in-Err g c = keeps_after _ _ _ _ _ c.folders.invariant c.sync_names_of.ensures.whenever
+
+pub folders-preserved-in-Err-2 : goal.folders-preserved-in-Err-2
+folders-preserved-in-Err-2 g c = keeps_after _ _ _ _ _ c.folders.invariant c.sync_names_of.ensures.whenever
 
 pub returns : goal.returns
 returns g c = c.folders.invariant
