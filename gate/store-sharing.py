@@ -305,7 +305,24 @@ def try_encode(kind, one, other, choose):
     check(not runs_there(one / "files"), f"a lock is left: {runs_there(one / 'files')}")
 
 
-TRIES = [try_two, try_other_host, try_leftovers, try_locks, try_own_locks, try_encode]
+def try_counters(kind, one, _other, choose):
+    """A run that is refused since one of another host may work there leaves the counters of one that goes on, and says its status in place
+    of those of one that has ended."""
+    if kind not in UNKNOWN:
+        return
+    store, file = one / "store", one / "counters"
+    lay(store, choose)
+    (store / f"{PREFIX}part-1-of-1").write_text("4711@beta\n")
+    labels = f'{{command="repair",store="{store}"}}'
+    going = f"rebuild_store_units{labels} 2\nrebuild_store_units_done{labels} 1\n"
+    for end in ("", f"rebuild_store_status{labels} 0\nrebuild_store_end_seconds{labels} 1\n"):
+        file.write_text(going + end)
+        check(MAYBE in run("repair", store, "--progress", file, status=1), "a run isn't refused beside another host's")
+        found = file.read_text()
+        check(f"rebuild_store_status{labels} 1\n" in found if end else found == going, f"counters of a refused run: {found!r}")
+
+
+TRIES = [try_two, try_other_host, try_leftovers, try_locks, try_own_locks, try_encode, try_counters]
 # A table of mounts whose first one is on itself, as that of a host which was started from a file system in memory; and the kinds of those
 # that are on it at one place, of which the last is seen, with whether nothing is known of locks there.
 TABLE = "1 1 0:2 / / rw - rootfs rootfs rw\n"

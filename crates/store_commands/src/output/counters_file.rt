@@ -3,14 +3,18 @@ use crate::output::report_file::write_report;
 use std::alloc::Global;
 use std::io::{self, ErrorKind};
 use std::os::unix::fs::FileExt;
+use std::str;
 use std::sync::Arc;
 use std::sync::atomic::{AtomicU64, Ordering};
-use store_faults::{DEVICE, FileFault, StoreFault, say, words_of};
-use store_folder::{Links, open_regular};
+use store_faults::{COUNTER_PREFIX, DEVICE, FileFault, StoreFault, say, words_of};
+use store_folder::{Links, RegularFile, open_regular};
 use store_progress::{Progress, Turns};
 
 /// The least time between two writes, in milliseconds.
 const BETWEEN: u64 = 5_000;
+
+/// More bytes than counters have: each line has the path of the store, and the system takes none of more than 4,096 bytes.
+const MOST_BYTES: u64 = 1_048_576;
 
 /// Where the counters of a command go, if they are wanted: a path, the store that they are of, and what is counted.
 #[derive(Drop)]
@@ -88,7 +92,7 @@ impl CountersFile<'_> {
         let Some(path) = self.path else {
             return fault;
         };
-        if is_of_another(&fault) || !self.has_own(rt, path).unwrap_or(false) {
+        if is_of_another(&fault) || !self.has_earlier(rt, path, &fault).unwrap_or(false) {
             return fault;
         }
         match self.write(rt, path, Some(fault.status())) {
@@ -103,18 +107,20 @@ impl CountersFile<'_> {
         }
     }
 
-    /// Whether the regular file at a path begins as the counters of the same command over the same store do.
-    fn has_own(&self, rt: &HostRuntime, path: &str) -> io::Result<bool> {
-        let alloc = rt.alloc();
+    /// Whether the regular file at a path begins as the counters of the same command over the same store do; and, if the store is refused
+    /// since a run of another host may work there, whether they are those of one that has ended.
+    fn has_earlier(&self, rt: &HostRuntime, path: &str, fault: &FileFault) -> io::Result<bool> {
         let text = self.progress.counters(rt, self.store, None)?;
         let line = text.as_str().split('\n').next().unwrap_or("");
         let Some((begin, _)) = line.rsplit_once(' ') else {
             return Ok(false);
         };
         let opened = open_regular(rt, path, Links::NotFollowed)?;
-        let mut room = Vec::from_elem(alloc, 0u8, begin.len())?;
-        opened.file.read_exact_at(room.as_mut_slice(), 0)?;
-        Ok(room.as_slice() == begin.as_bytes())
+        let there = first_bytes(rt.alloc(), &opened, begin.len())?;
+        if there.as_slice() != begin.as_bytes() {
+            return Ok(false);
+        }
+        Ok(!may_be_of_another(fault) || have_ended(rt.alloc(), &opened)?)
     }
 }
 
@@ -126,6 +132,42 @@ fn is_of_another(fault: &FileFault) -> bool {
             fault: StoreFault::InUse { .. } | StoreFault::ReportInStore { .. },
         }
     )
+}
+
+/// Whether a store was refused since another run, which would write counters of its own, may work in it.
+fn may_be_of_another(fault: &FileFault) -> bool {
+    matches!(
+        fault,
+        FileFault::Store {
+            fault: StoreFault::MayBeInUse { .. },
+        }
+    )
+}
+
+/// Whether counters in a file say the status of a command that has ended.
+fn have_ended(alloc: Global, counters: &RegularFile) -> io::Result<bool> {
+    let length = counters.metadata.len();
+    if length > MOST_BYTES {
+        return Ok(false);
+    }
+    let bytes = first_bytes(alloc, counters, length as usize)?;
+    let Ok(text) = str::from_utf8(bytes.as_slice()) else {
+        return Ok(false);
+    };
+    Ok(text.split('\n').any(is_status))
+}
+
+/// Whether a line of counters says the status of a command that has ended.
+fn is_status(line: &str) -> bool {
+    let counter = line.strip_prefix(COUNTER_PREFIX);
+    counter.is_some_and(|counter| counter.starts_with("status{"))
+}
+
+/// The first bytes of a file, which has to have so many.
+fn first_bytes(alloc: Global, opened: &RegularFile, count: usize) -> io::Result<Vec<u8>> {
+    let mut room = Vec::from_elem(alloc, 0u8, count)?;
+    opened.file.read_exact_at(room.as_mut_slice(), 0)?;
+    Ok(room)
 }
 
 /// Says that counters can't be written.
