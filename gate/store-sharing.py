@@ -254,6 +254,12 @@ def try_unwritten_lock(one, choose, lock, left):
         check(ended.status == 3 and ended.paths[0] == str(lock) and ended.kind == "write", f"{ended.paths}: {ended.text()}")
         check(not lock.exists(), f"after a lock couldn't be written, in which {text!r} was: {runs_there(one / 'store')}")
         run(*command[1:], status=0)
+    # Killed there, a run leaves the lock to the next one: the line of an ended run, which has no more digits than its own, is written over.
+    lay(one / "store", choose)
+    lock.write_text(left)
+    killed = calls.run(command, number, "kill")
+    check(killed.kind == "write" and killed.paths[0] == str(lock) and lock.read_text() == left, f"{killed.text()}: {lock.read_text()!r}")
+    check(MAYBE not in run(*command[1:], status=0), "a killed run keeps the next one out")
 
 
 def try_own_locks(kind, one, _other, choose):

@@ -261,7 +261,11 @@ fn owned(
 /// Writes a run into the file of its lock, in place of what is there.
 fn write_run(alloc: Global, file: &mut File, run: &str) -> io::Result<()> {
     let line = format!(in alloc; "{run}\n")?;
-    file.set_len(0)?;
+    // Written over, the lock says the one run or the other, wherever this one is killed. The end of a longer line would be left behind a
+    // shorter one, and both together are no lock's text, while an empty one is of a run that isn't known.
+    if (line.len() as u64) < file.metadata()?.len() {
+        file.set_len(0)?;
+    }
     file.write_all(line.as_bytes())
 }
 
