@@ -344,6 +344,31 @@ def test_read_to_a_path_that_leads_into_the_store(place, choose):
         hold("is in a folder of the store" in err and not (outside / "new").exists(), f"{inside}: {err}")
 
 
+def test_read_to_another_name_of_a_fragment(place, choose):
+    """No file is read through a link into what is also a file of the stripe; at a second name itself a new file takes that name alone."""
+    store, data, link, other = place / "store", choose.randbytes(3_000), place / "link", place / "other"
+    run("encode", "--make-folders", *DISKS, store, source(place, "a", data), status=0)
+    files = there(store)
+    link.symlink_to(other.name)
+    for name in ("disk0/a", "disk9/a", "disk3/a.file", "SHA256SUMS"):
+        os.link(store / name, other)
+        _, err = run("read", *DISKS, store, "a", "-o", link, status=2)
+        hold(err == f"rebuild-store: {link}: leads to a file of the store\n" and there(store) == files, f"{name}: {err}")
+        with open(link, "r+b") as file:
+            ended = subprocess.run([PROGRAM, "read", *DISKS, store, "a", "-o", "/dev/stdout"], stdout=file, stderr=subprocess.PIPE)
+        hold(ended.returncode == 2 and there(store) == files, f"{name}: {ended}")
+        run("read", *DISKS, store, "a", "-o", other, status=0)
+        hold(other.read_bytes() == data and there(store) == files, f"{name}: its second name isn't replaced alone")
+        run("read", *DISKS, store, "a", "-o", link, status=0)
+        hold(other.read_bytes() == data and there(store) == files, f"{name}: a file that isn't the store's any more isn't written")
+        other.unlink()
+    # Where links are followed, what one in the store leads to is a file of the store.
+    (store / "disk4/a").rename(other)
+    (store / "disk4/a").symlink_to(other)
+    _, err = run("read", *DISKS, "--follow-links", store, "a", "-o", link, status=2)
+    hold(f"{link}: leads to a file of the store" in err and there(store) | {"disk4/a": other.read_bytes()} == files, err)
+
+
 def test_read_to_a_file_once(place, choose):
     """What is written to a new file is read once, and another time only where it isn't the file that is described."""
     store, data, calls, out = place / "store", choose.randbytes(3_000_000), Calls(place), place / "out"

@@ -1,11 +1,12 @@
 //! Paths that no file is read to, since they are the store's.
 use lrc_code::Code;
+use std::alloc::{AllocError, Global};
 use std::fs::{self, Metadata};
 use std::io::{self, ErrorKind};
 use std::os::unix::fs::MetadataExt;
-use store_faults::{FileFault, device};
+use store_faults::{FileFault, device, fragment_name};
 use store_files::{Sought, StoredFile};
-use store_folder::{Identity, folder_of, followed, path_in};
+use store_folder::{Identity, SUMS_NAME, description_names, folder_of, followed, look_at, path_in};
 use store_names::{disk_folders, folder_in, stripe_folders};
 
 /// So many folders at most are above another one: each is a `/..` more, and the system takes no path of more than 4,096 bytes.
@@ -23,19 +24,70 @@ struct Folders {
     below: Vec<Identity>,
 }
 
-/// Refuses a path in a folder of the store, or below one that may have fragments of it anywhere; and one whose links lead there.
+/// Refuses a path in a folder of the store, or below one that may have fragments of it anywhere; one whose links lead there; and one whose
+/// links lead to a file of the stripe, which may have another name elsewhere.
 pub(crate) fn refuse_in_store(
     rt: &HostRuntime,
     sought: &Sought<'_, '_>,
     path: &str,
 ) -> Result<(), FileFault> {
     match leads_into_store(rt, sought, path) {
-        Ok(false) => Ok(()),
+        Ok(false) => refuse_own_file(rt, sought, path),
         Ok(true) => Err(FileFault::Usage {
             what: format!(in rt.alloc(); "{path}: is in a folder of the store")?,
         }),
         Err(error) => Err(device(rt.alloc(), path, error)),
     }
+}
+
+/// Refuses a path whose links lead to a file of the stripe: it would be written as it is.
+fn refuse_own_file(rt: &HostRuntime, sought: &Sought<'_, '_>, path: &str) -> Result<(), FileFault> {
+    match leads_to_own_file(rt, sought, path) {
+        Ok(false) => Ok(()),
+        Ok(true) => Err(FileFault::Usage {
+            what: format!(in rt.alloc(); "{path}: leads to a file of the store")?,
+        }),
+        Err(error) => Err(device(rt.alloc(), path, error)),
+    }
+}
+
+/// Whether links lead from a path to a file of the stripe. A regular file that is at the path itself is replaced, and stays as it is under
+/// its other names. One of the stripe's that can't be looked at is left out, as its folder is.
+fn leads_to_own_file(rt: &HostRuntime, sought: &Sought<'_, '_>, path: &str) -> io::Result<bool> {
+    if fs::symlink_metadata(rt, path).is_ok_and(|there| there.is_file()) {
+        return Ok(false);
+    }
+    let end = match fs::metadata(rt, path) {
+        Ok(there) if there.is_file() => Identity::of(&there),
+        Ok(_) => return Ok(false),
+        Err(error) if error.kind() == ErrorKind::NotFound => return Ok(false),
+        Err(error) => return Err(error),
+    };
+    let StoredFile { folder, links, .. } = sought.file;
+    for name in own_names(rt.alloc(), &sought.file)? {
+        let own = path_in(rt.alloc(), folder, name.as_str())?;
+        match look_at(rt, own.as_str(), links) {
+            Ok(there) if Identity::of(&there) == end => return Ok(true),
+            Err(error) if error.kind() == ErrorKind::OutOfMemory => return Err(error),
+            _ => {}
+        }
+    }
+    Ok(false)
+}
+
+/// The names that files of the stripe can have, of either code, and that of the digests.
+fn own_names(alloc: Global, file: &StoredFile<'_, '_>) -> Result<Vec<String>, AllocError> {
+    let mut names = Vec::new(alloc);
+    names.push(String::from_str(alloc, SUMS_NAME)?)?;
+    for code in [Code::Narrow, Code::Wide] {
+        for place in code.places() {
+            names.push(fragment_name(alloc, &file.pattern, code, file.name, *place)?)?;
+        }
+        for name in description_names(alloc, &file.pattern, code, file.name)? {
+            names.push(name)?;
+        }
+    }
+    Ok(names)
 }
 
 /// Whether a path, or what its links lead to, is in a folder of the store or below one.
