@@ -418,6 +418,33 @@ def test_fragment_that_fails_beside_damaged_ones(place, choose):
     hold(tried, "the fragment isn't read")
 
 
+def test_reads_of_what_cannot_be_had(place, choose):
+    """Fragments that don't determine a file aren't read for it, and those that were read for it in vain not once more."""
+    store, calls = place / "store", Calls(place)
+
+    def reads(status, *words):
+        ended = calls.run([PROGRAM, "verify", *words, "a"])
+        hold(ended.status == status, ended.text())
+        return ended.kinds.count("read")
+
+    run("encode", store, source(place, "a", choose.randbytes(6_000)), status=0)
+    once = reads(0, store)
+    for one in ("y0", "y1", "y2", "py"):
+        (store / f"a.{one}").unlink()
+    many = reads(1, store)
+    hold(many <= 3 * once, f"{many} reads of what determines nothing, where all are read with {once}")
+    # Of the ten fragments each one and each two are left out, and of the nine beside which no other file is described. Of these 56 and 46
+    # sets 10 leave out parities alone, and 10 are among both, so that 82 are read, with some twelve reads each.
+    store = place / "disks"
+    run("encode", "--make-folders", *DISKS, store, source(place, "b", choose.randbytes(6_000)), "--as", "a", status=0)
+    (store / "SHA256SUMS").unlink()
+    (store / "disk0/a.file").write_bytes(description_of(b"another"))
+    for number in (1, 2, 3):
+        (store / f"disk{number}/a").write_bytes(bytes(1_000))
+    many = reads(1, *DISKS, store)
+    hold(many <= 1_050, f"{many} reads")
+
+
 def test_read_to_a_file_killed(place, choose):
     """A run that is killed while it reads to a file, or whose calls fail, leaves it as it was or whole."""
     store, data, calls = place / "store", choose.randbytes(3_000), Calls(place)
@@ -583,6 +610,48 @@ def test_replace_failing(place, choose):
 
     with concurrent.futures.ThreadPoolExecutor(os.cpu_count()) as pool:
         [*pool.map(one, range(1, len(kinds) + 1))]
+
+
+def test_replace_failing_where_it_clears_up(place, choose):
+    """If a run that replaces a file fails, and then can't take away all that it had made, it takes each description that it can, so that
+    the old file is read; where one stays, so do all fragments. Both failures are said, and the same command again ends the work."""
+    calls, first = Calls(place), place / "first"
+    old, new = choose.randbytes(900), choose.randbytes(1_801)
+    run("encode", "--make-folders", *DISKS, first, source(place, "a", old), status=0)
+    source(place, "a", new)
+    shutil.copytree(first, place / "count")
+    kinds = calls.run([PROGRAM, "encode", "--replace", *DISKS, place / "count", place / "a"]).kinds
+    links = [number for number, kind in enumerate(kinds, 1) if kind == "link"]
+    # From the first description's name on to that of the first fragment that replaces another one.
+    turns = [(number, rest) for number in range(links[10], kinds.index("rename") - 1) for rest in ("path", "kind")
+             if kinds[number - 1] in ("create", "write", "sync", "link", "unlink")]
+    left_some = set()
+
+    def one(turn):
+        number, rest = turn
+        store, kind = place / f"failing-{number}-{rest}", kinds[number - 1]
+        shutil.copytree(first, store)
+        command = [PROGRAM, "encode", "--replace", *DISKS, store, place / "a"]
+        ended = calls.run(command, number, 5, rest)
+        where = f"call {number}, {kind}, and those after it of one {rest}"
+        copies = [it for it in there(store) if it.endswith(f"a{STAGED}.file")]
+        fragments = [it for it in there(store) if it.endswith(f"a{STAGED}")]
+        read = ran("read", *DISKS, store, "a")
+        hold(read.returncode == 0 and read.stdout == (old if ended.status and not copies else new), f"{where}: {ended.text()} {copies}")
+        hold(rest == "kind" or len(copies) < 2, f"{where}: more than one description is left: {copies}")
+        hold(not copies or not ended.status or len(fragments) == 10, f"{where}: {copies} is left, and not all fragments: {fragments}")
+        if ended.status and (copies or fragments):
+            left_some.add((kind, rest))
+            lines = ended.err.splitlines()
+            hold(ended.status == 3 and sum("Input/output error" in line for line in lines) > 1, f"{where}: {ended.text()}")
+        run(*command[1:], status=0)
+        hold(decoded(store, "a", DISKS[1]) == new and are_right(store), f"{where}: not the new file after the same command")
+        hold(not [it for it in there(store) if "rebuild-store" in it], f"{where}: left {sorted(there(store))}")
+        shutil.rmtree(store)
+
+    with concurrent.futures.ThreadPoolExecutor(os.cpu_count()) as pool:
+        [*pool.map(one, turns)]
+    hold({("sync", "path"), ("sync", "kind"), ("unlink", "kind")} <= left_some, f"something was left after {left_some} alone")
 
 
 def begun_replacement(place, choose, *names):
@@ -793,13 +862,160 @@ def test_replacement_by_one_description(place, choose):
         hold("is there already" in err and run("read", store, "a", status=0)[0] == new, f"the new file was thrown away: {err}")
         hold(not [it for it in there(store) if STAGED in it], sorted(there(store)))
         if odd is None:
-            # The old description isn't left beside the new fragments, so that a repair makes the new one.
-            hold("a.file" not in there(store), "a description of the old file is left")
-            run("repair", store, "--replace-damaged", status=0)
-            files = there(store)
-            hold(files["a.file"] == files["a.file.copy"] and run("read", store, "a", status=0)[0] == new, "the new file can't be read")
+            # No description of the old file is left beside the new fragments, and none is wanting.
+            files, text = there(store), description_of(new)
+            hold(files["a.file"] == text == files["a.file.copy"], f"{files.get('a.file')} {files.get('a.file.copy')}")
             run("scrub", store, status=0)
         shutil.rmtree(store)
+
+
+def description_of(data, code="6-2-2"):
+    """The description of a file with these bytes."""
+    return f"{len(data)} {hashlib.sha256(data).hexdigest()} {code}\n".encode()
+
+
+def test_replacement_that_lost_its_descriptions(place, choose):
+    """Of what replaces a file each disk gets its description again that has a fragment of it, before anything gets its name; where one
+    can't be written, the others are, and the old one goes."""
+    for full in (None, 3):
+        store, old, new = begun_replacement(place, choose, *DISKS)
+        for number in range(1, 10):
+            (store / f"disk{number}/a{STAGED}.file").unlink()
+        # A disk without a fragment may be away, and nothing is written there.
+        (store / f"disk7/a{STAGED}").unlink()
+        (store / "disk7/a").unlink()
+        (store / f"disk0/a{STAGED}.file").chmod(0o640)
+        calls, again, copies = Calls(place), place / "again", [f"disk{number}/a.file" for number in range(10)]
+        command = [PROGRAM, "encode", *DISKS, again, source(place, "a", old)]
+        shutil.copytree(store, again)
+        ended = calls.run(command)
+        if full is not None:
+            creates = [number for number, kind in enumerate(ended.kinds, 1) if kind == "create"]
+            for number in creates:
+                shutil.rmtree(again)
+                shutil.copytree(store, again)
+                ended = calls.run(command, number, 28)
+                if pathlib.Path(ended.paths[0]).parent == again / f"disk{full}":
+                    break
+            hold("No space left on device" in ended.err, ended.text())
+        hold(ended.status == 1 and "is there already, with other bytes" in ended.err, ended.text())
+        files = there(again)
+        wanting = [it for it in copies if files.get(it) != description_of(new)]
+        hold(wanting == [f"disk{it}/a.file" for it in (full, 7) if it is not None], f"{full}: {wanting}")
+        hold(not set(wanting) & set(files), f"{full}: a description of the old file is left")
+        rights = {stat.S_IMODE((again / it).stat().st_mode) for it in copies if it in files}
+        hold(rights == {0o640}, f"{full}: other rights than those of the copy that was there: {rights}")
+        hold(not [it for it in files if "rebuild-store" in it] and run("read", *DISKS, again, "a", status=0)[0] == new, sorted(files))
+        shutil.rmtree(again)
+        shutil.rmtree(store)
+
+
+def test_replacement_killed_while_it_gets_descriptions(place, choose):
+    """A run that writes what is lost of the descriptions of what replaces a file, and is killed at any call meanwhile, leaves the new file
+    to be read, and the same command ends the work."""
+    kept, old, new = begun_replacement(place, choose, *DISKS)
+    for number in range(1, 10):
+        (kept / f"disk{number}/a{STAGED}.file").unlink()
+    calls = Calls(place)
+    shutil.copytree(kept, place / "count")
+    kinds = calls.run([PROGRAM, "encode", "--replace", *DISKS, place / "count", source(place, "a", new)]).kinds
+    hold("link" in kinds[: kinds.index("rename") - 2], f"no description is written: {kinds}")
+
+    def one(number):
+        store = place / f"killed-{number}"
+        shutil.copytree(kept, store)
+        command = [PROGRAM, "encode", "--replace", *DISKS, store, place / "a"]
+        where = f"killed at call {number}, {kinds[number - 1]}"
+        hold(calls.run(command, number, "kill").status == -9, f"{where}: it wasn't")
+        hold(run("read", *DISKS, store, "a", status=0)[0] == new, f"{where}: not the new file is read")
+        run(*command[1:], status=0)
+        hold(decoded(store, "a", DISKS[1]) == new and are_right(store), f"{where}: not the new file after the same command")
+        hold(not [it for it in there(store) if "rebuild-store" in it], f"{where}: left {sorted(there(store))}")
+        shutil.rmtree(store)
+
+    with concurrent.futures.ThreadPoolExecutor(os.cpu_count()) as pool:
+        [*pool.map(one, range(1, kinds.index("rename") + 1))]
+
+
+def test_replacement_of_a_code_with_more_fragments(place, choose):
+    """What was begun by another code, with more fragments than the run's own has, isn't given the names of these alone: it stays."""
+    wide, calls, store = ["--code", "12-2-2", *DISKS], Calls(place), place / "store"
+    old, new = choose.randbytes(2_000), choose.randbytes(3_001)
+    run("encode", "--make-folders", *wide, store, source(place, "a", old), status=0)
+    shutil.copytree(store, place / "count")
+    source(place, "a", new)
+    number = calls.run([PROGRAM, "encode", "--replace", *wide, place / "count", place / "a"]).kinds.index("rename") + 1
+    hold(calls.run([PROGRAM, "encode", "--replace", *wide, store, place / "a"], number, "kill").status == -9, "it wasn't killed")
+    before = lasting(store)
+    for words in ([], ["--replace"]):
+        ended = ran("encode", *words, *DISKS, store, place / "a")
+        hold(ended.returncode in (1, 2) and b"12-2-2" in ended.stderr and lasting(store) == before, f"{ended.returncode} {ended.stderr!r}")
+    hold(run("read", *DISKS, store, "a", status=0)[0] == new, "not the new file is read")
+    run("encode", *wide, store, place / "a", status=0)
+    hold(decoded(store, "a", DISKS[1]) == new and not [it for it in there(store) if STAGED in it], sorted(there(store)))
+
+
+def test_digests_of_a_replacement_that_was_killed(place, choose):
+    """A run that is killed once it has written the digests leaves them right, and so does the next one, which ends what it began."""
+    calls, first = Calls(place), place / "first"
+    old, new = choose.randbytes(2_000), choose.randbytes(3_001)
+    run("encode", first, source(place, "a", old), status=0)
+    (place / "old").mkdir()
+    source(place / "old", "a", old)
+    shutil.copytree(first, place / "count")
+    kinds = calls.run([PROGRAM, "encode", "--replace", place / "count", source(place, "a", new)]).kinds
+    # The fragments, the descriptions and the digests have got their names then.
+    given = [number for number, kind in enumerate(kinds, 1) if kind == "rename"][len(PLACES) + 2]
+    tried = set()
+    for number in [number for number, kind in enumerate(kinds, 1) if kind == "unlink" and given < number]:
+        store = place / f"killed-{number}"
+        shutil.copytree(first, store)
+        killed = calls.run([PROGRAM, "encode", "--replace", store, place / "a"], number, "kill")
+        if ".file" not in killed.paths[0]:
+            continue
+        tried.add(killed.paths[0].partition(STAGED)[2])
+        _, err = run("encode", store, place / "old/a", status=1)
+        hold("is there already, with other bytes" in err, f"call {number}: {err}")
+        files = there(store)
+        hold(files["a.file"] == description_of(new) == files["a.file.copy"], f"call {number}: {sorted(files)}")
+        hold(are_right(store), f"call {number}: digests are gone that were right: {sorted(set(files) - set(sums_of(store)))}")
+        hold(not [it for it in files if "rebuild-store" in it], f"call {number}: left {sorted(files)}")
+    hold(tried == {".file", ".file.copy"}, f"tried {tried}")
+
+
+def test_replacement_that_most_descriptions_say(place, choose):
+    """What most copies of its description say is what replaces a file, as it is what is read, whatever the first says."""
+    for others in ([0], [0, 1, 2]):
+        store, old, new = begun_replacement(place, choose, *DISKS)
+        for number in others:
+            (store / f"disk{number}/a{STAGED}.file").write_bytes(description_of(b"another"))
+        hold(run("read", *DISKS, store, "a", status=0)[0] == new, f"{others}: not the new file is read")
+        _, err = run("encode", *DISKS, store, source(place, "a", old), status=1)
+        hold("is there already, with other bytes" in err and not [it for it in there(store) if STAGED in it], f"{others}: {err}")
+        hold(run("read", *DISKS, store, "a", status=0)[0] == new, f"{others}: not the new file is read after that")
+        run("encode", "--replace", *DISKS, store, source(place, "a", new), status=0)
+        hold(decoded(store, "a", DISKS[1]) == new and are_right(store), f"{others}: not the new file")
+        shutil.rmtree(store)
+
+
+def test_replacement_with_a_fragment_that_fails(place, choose):
+    """What was begun replaces the file though a fragment of it can't be opened or read: the others give the new file."""
+    kept, old, new = begun_replacement(place, choose)
+    calls, store = Calls(place), place / "again"
+    command, staged = [PROGRAM, "encode", "--replace", store, source(place, "a", new)], store / f"a{STAGED}.x1"
+    shutil.copytree(kept, store)
+    kinds, tried = calls.run(command).kinds, set()
+    for number, kind in enumerate(kinds[: kinds.index("rename")], 1):
+        if kind in ("open", "read"):
+            shutil.rmtree(store)
+            shutil.copytree(kept, store)
+            ended = calls.run(command, number, 5, "path")
+            if ended.paths == (str(staged),):
+                tried.add(kind)
+                hold(ended.status == 0 and decoded(store, "a") == new, f"call {number}, {kind}: {ended.text()}")
+                hold("Input/output error" in ended.err or "read without" in ended.err, f"call {number}, {kind}: {ended.text()}")
+                hold(are_right(store) and not [it for it in there(store) if STAGED in it], f"call {number}, {kind}: {sorted(there(store))}")
+    hold(tried == {"open", "read"}, f"tried {tried}")
 
 
 def test_replacement_without_memory(place, choose):
@@ -872,11 +1088,13 @@ def test_replacement_whose_disk_is_away(place, choose):
         kinds = calls.run(command).kinds
         renames = [number for number, kind in enumerate(kinds, 1) if kind == "rename"]
         unlinks = [number for number, kind in enumerate(kinds, 1) if kind == "unlink" and number > renames[9]]
-        # The last name is that of the digests, once nothing is left of what was begun if there were none.
-        for number in [*renames[2 : 12 if has_sums else 11], *unlinks][:16]:
+        for number in [*renames[2:11], *(it for it in unlinks if it < renames[10])]:
             shutil.rmtree(store)
             shutil.copytree(kept, store)
             hold(calls.run(command, number, "kill").status == -9, f"call {number} isn't made")
+            # The other disks had theirs again before the first name was given; as where that could not be.
+            for other in range(1, 10):
+                (store / f"disk{other}/a{STAGED}.file").unlink()
             (store / "disk0").rename(place / "away")
             (store / "disk0").mkdir()
             before = lasting(store)
@@ -924,10 +1142,11 @@ def test_read_beside_what_is_not_described(place, choose):
 
 
 def test_replacement_that_was_damaged(place, choose):
-    """What was damaged since it was made replaces nothing, unless fragments of its length give the file that is described."""
+    """What was damaged since it was made replaces nothing, unless fragments of its length give the file that is described, also without one
+    or two of them."""
     said = b"the fragments that are there don't give the file that a.rebuild-store-new.file describes"
-    for damaged, damage, is_read in (("x0 x1 x2 px", b"", False), ("x0 x1 x2 y0 y1 y2", b"cut", False), ("y1", None, False),
-                                     ("x0 x1 y0 p1", b"", True)):
+    for damaged, damage, is_read in (("x0 x1 x2 px", b"", False), ("x0 x1 x2 y0 y1 y2", b"cut", False), ("x0 x1 y1", None, False),
+                                     ("y1", None, True), ("x0 y1", None, True), ("x0 x1 y0 p1", b"", True)):
         store, old, new = begun_replacement(place, choose)
         for one in damaged.split():
             fragment = store / f"a{STAGED}.{one}"
@@ -937,6 +1156,7 @@ def test_replacement_that_was_damaged(place, choose):
             hold(ended.returncode == 1 and said in ended.stderr and lasting(store) == before, f"{damaged}: {ended.stderr}")
             run("remove", "--code", "6-2-2", store, f"a{STAGED}", status=0)
         hold(run("read", store, "a", status=0)[0] == (new if is_read else old), f"{damaged}: another file is read")
+        hold(not [it for it in there(store) if STAGED in it], f"{damaged}: left {sorted(there(store))}")
         shutil.rmtree(store)
 
 
@@ -977,15 +1197,58 @@ def test_names_too_long_to_describe(place, choose):
 
 
 def test_description_of_what_is_gone(place, choose):
-    """A description of a file that was to replace another one, without its fragments, isn't taken for that of a new one."""
-    for names, described in (([], f"a{STAGED}.file.copy"), (DISKS, f"disk4/a{STAGED}.file")):
-        store, old = place / f"store-{len(names)}", choose.randbytes(2_000)
+    """A description of a file that was to replace another one, without its fragments, isn't taken for that of a new one: it goes, whether a
+    file is encoded with --replace or not."""
+    for names, copy in (([], f"a{STAGED}.file.copy"), (DISKS, f"disk4/a{STAGED}.file")):
+        store, old, new = place / f"store-{len(names)}", choose.randbytes(2_000), choose.randbytes(900)
         run("encode", "--make-folders", *names, store, source(place, "a", old), status=0)
-        (store / described).write_text(f"900 {hashlib.sha256(b'gone').hexdigest()} 6-2-2\n")
         before = there(store)
-        _, err = run("encode", "--replace", *names, store, source(place, "a", choose.randbytes(900)), status=1)
-        hold("too little of it is there" in err and there(store) == before, f"{names}: {err}")
+        (store / copy).write_bytes(description_of(b"gone"))
         hold(run("read", *names, store, "a", status=0)[0] == old, f"{names}: not the old file is read")
+        run("encode", *names, store, source(place, "a", old), status=0)
+        hold(there(store) == before, f"{names}: {sorted(there(store))}")
+        (store / copy).write_bytes(description_of(b"gone"))
+        run("encode", "--replace", *names, store, source(place, "a", new), status=0)
+        hold(decoded(store, "a", *names[1:]) == new and set(there(store)) == set(before), f"{names}: {sorted(there(store))}")
+
+
+def test_description_of_what_may_be_away(place, choose):
+    """A description without fragments stays, and refuses the file, where these may be on disks that are away, where one can't be looked at,
+    and where the file itself can't be read, so that the description may be that of what has its name."""
+    store, copy = place / "store", f"disk8/a{STAGED}.file"
+    run("encode", "--make-folders", *DISKS, store, source(place, "a", b""), status=0)
+    (store / copy).write_bytes(description_of(b"gone"))
+    for number in range(6):
+        (store / f"disk{number}").rename(place / f"away{number}")
+        (store / f"disk{number}").mkdir()
+    before, said = there(store), "too little of it is there to replace a file"
+    for words in ([], ["--replace"]):
+        _, err = run("encode", *words, *DISKS, store, place / "a", status=1)
+        hold(said in err and there(store) == before, f"disks away: {err}")
+    # One of the disks that were away has a fragment of what was begun.
+    for number in range(6):
+        (store / f"disk{number}").rmdir()
+        (place / f"away{number}").rename(store / f"disk{number}")
+    (store / f"disk3/a{STAGED}").write_bytes(b"a")
+    before = there(store)
+    _, err = run("encode", *DISKS, store, place / "a", status=1)
+    hold(said in err and there(store) == before, f"a fragment is there: {err}")
+    (store / f"disk3/a{STAGED}").unlink()
+    (store / "disk3").rename(place / "away")
+    (store / "disk3").symlink_to("disk3")
+    ended = ran("encode", "--follow-links", *DISKS, store, place / "a")
+    hold(ended.returncode in (1, 3) and (store / copy).exists(), f"a disk fails: {ended.stderr}")
+    (store / "disk3").unlink()
+    (place / "away").rename(store / "disk3")
+    # What has the name is not what its own description says.
+    shutil.rmtree(store)
+    run("encode", "--make-folders", *DISKS, store, source(place, "a", choose.randbytes(3_000)), status=0)
+    (store / copy).write_bytes(description_of(b"gone"))
+    for number in range(5):
+        (store / f"disk{number}/a").write_bytes(bytes(500))
+    before = there(store)
+    _, err = run("encode", *DISKS, store, place / "a", status=1)
+    hold(said in err and there(store) == before, f"what has the name is another file: {err}")
 
 
 def test_replacement_that_is_taken_out(place, choose):

@@ -1,7 +1,10 @@
 //! Encoding a file into a store: the fragments of its stripe, and its description.
 mod begun;
 pub(crate) mod descriptions;
+mod discarding;
 pub(crate) mod fragments;
+mod lone;
+mod lost_descriptions;
 mod ordering;
 pub(crate) mod placing;
 mod replacing;

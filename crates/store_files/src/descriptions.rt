@@ -13,6 +13,14 @@ use store_folder::{
 };
 use store_repair::lost_places;
 
+/// What is done about copies that can't be read.
+#[derive(Clone, Copy)]
+enum Unread {
+    /// It is said of each but the last why it can't be.
+    Said,
+    Unsaid,
+}
+
 /// What the copies of a file's description say, each once, first what most say.
 pub fn descriptions_of(
     rt: &HostRuntime,
@@ -31,17 +39,52 @@ pub fn descriptions_of(
     }
     let mut said = Vec::new(alloc);
     let mut refused = None;
-    match add_copies(rt, file, names.as_slice(), &mut said, &mut refused) {
+    let copies = names.as_slice();
+    match add_copies(rt, file, copies, Unread::Said, &mut said, &mut refused) {
         Ok(()) => ordered(rt, file, said.as_slice(), refused),
         Err(fault) => Err(fault),
     }
 }
 
-/// Adds what copies say, and says why others can't be read, but for the last of these.
+/// What the copies of a file's description say, each once, first what most say; none where no copy is there. If no copy says anything, one
+/// that is there but can't be read isn't taken for nothing.
+pub fn descriptions_for_sure(
+    rt: &HostRuntime,
+    file: &StoredFile<'_, '_>,
+) -> Result<Vec<Described>, FileFault> {
+    let alloc = rt.alloc();
+    let names = description_names(alloc, &file.pattern, Code::Wide, file.name)?;
+    let mut said = Vec::new(alloc);
+    let mut refused = None;
+    let copies = names.as_slice();
+    match add_copies(rt, file, copies, Unread::Unsaid, &mut said, &mut refused) {
+        Ok(()) => for_sure(alloc, said.as_slice(), refused),
+        Err(fault) => Err(fault),
+    }
+}
+
+/// What copies say, first what most say; or why none that is there says anything.
+fn for_sure(
+    alloc: Global,
+    said: &[Described],
+    refused: Option<FileFault>,
+) -> Result<Vec<Described>, FileFault> {
+    if said.is_empty() {
+        return match refused {
+            Some(fault) => Err(fault),
+            None => Ok(Vec::new(alloc)),
+        };
+    }
+    drop(refused);
+    in_order(alloc, said)
+}
+
+/// Adds what copies say, and why the last of those can't be read that can't.
 fn add_copies(
     rt: &HostRuntime,
     file: &StoredFile<'_, '_>,
     copies: &[String],
+    unread: Unread,
     said: &mut Vec<Described>,
     refused: &mut Option<FileFault>,
 ) -> Result<(), FileFault> {
@@ -50,7 +93,13 @@ fn add_copies(
             Ok(Some(described)) => said.push(described)?,
             Ok(None) => {}
             Err(fault) if matches!(&fault, FileFault::OutOfMemory) => return Err(fault),
-            Err(fault) => say_fault(rt, file, mem::replace(refused, Some(fault))),
+            Err(fault) => {
+                let before = mem::replace(refused, Some(fault));
+                match unread {
+                    Unread::Said => say_fault(rt, file, before),
+                    Unread::Unsaid => drop(before),
+                }
+            }
         }
     }
     Ok(())
@@ -100,35 +149,11 @@ pub fn first_described(
     rt: &HostRuntime,
     file: &StoredFile<'_, '_>,
 ) -> Result<Option<Described>, FileFault> {
-    let mut refused = None;
-    first_said(rt, file, &mut refused)
-}
-
-/// What the first copy of a file's description says that can be read. If no copy says anything, one that is there but can't be read isn't
-/// taken for nothing.
-pub fn described_for_sure(
-    rt: &HostRuntime,
-    file: &StoredFile<'_, '_>,
-) -> Result<Option<Described>, FileFault> {
-    let mut refused = None;
-    match first_said(rt, file, &mut refused)? {
-        Some(described) => Ok(Some(described)),
-        None => refused.map_or(Ok(None), Err),
-    }
-}
-
-/// What the first copy of a file's description says that can be read, and why the last one before it that can't be read can't.
-fn first_said(
-    rt: &HostRuntime,
-    file: &StoredFile<'_, '_>,
-    refused: &mut Option<FileFault>,
-) -> Result<Option<Described>, FileFault> {
     for copy in description_names(rt.alloc(), &file.pattern, Code::Wide, file.name)? {
         match description_at(rt, file, copy.as_str()) {
             Ok(Some(described)) => return Ok(Some(described)),
-            Ok(None) => {}
             Err(fault) if matches!(&fault, FileFault::OutOfMemory) => return Err(fault),
-            Err(fault) => *refused = Some(fault),
+            _ => {}
         }
     }
     Ok(None)

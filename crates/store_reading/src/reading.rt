@@ -1,21 +1,18 @@
 //! Reading a file from a store. Nothing of it is to be seen before the fragments that are read are known to give the described file.
-mod choosing;
 pub(crate) mod destination;
-pub(crate) mod fragments;
 pub(crate) mod output;
 mod refusing;
 
 ghost use Rattle.std.specs.Prelude.{◌≡◌, vec_len};
 
-use choosing::set_that_fits;
 use destination::write_at;
-use fragments::{Fragments, Missing, open_fragments, unread_of};
 use output::write_out;
 use store_faults::FileFault;
 use store_files::{
-    Sought, StoredFile, described_for_sure, descriptions_of, is_whole, shares_fragment, staged_name,
+    Fragments, Missing, Sought, StoredFile, descriptions_for_sure, descriptions_of, is_whole,
+    open_fragments, set_that_fits, shares_fragment, staged_name, unread_of,
 };
-use store_folder::SystemFolder;
+use store_folder::{Described, SystemFolder};
 
 /// What is done with a file that is read.
 #[derive(Clone, Copy)]
@@ -54,9 +51,8 @@ fn is_newer(
     staged: &StoredFile<'_, '_>,
     file: &StoredFile<'_, '_>,
 ) -> Result<bool, FileFault> {
-    match described_for_sure(rt, staged) {
-        Ok(Some(described)) => is_whole(rt, staged, described.code),
-        Ok(None) => Ok(false),
+    match descriptions_for_sure(rt, staged) {
+        Ok(said) => is_whole_of(rt, staged, said.as_slice()),
         Err(fault) if matches!(&fault, FileFault::OutOfMemory) => Err(fault),
         Err(fault) => {
             if shares_fragment(rt, staged, file)? {
@@ -65,6 +61,20 @@ fn is_newer(
             Ok(false)
         }
     }
+}
+
+/// Whether all of a stripe is there by the code of one of its descriptions.
+fn is_whole_of(
+    rt: &HostRuntime,
+    file: &StoredFile<'_, '_>,
+    said: &[Described],
+) -> Result<bool, FileFault> {
+    for described in said {
+        if is_whole(rt, file, described.code)? {
+            return Ok(true);
+        }
+    }
+    Ok(false)
 }
 
 /// Holds a file of a store to its digest, and says what was left out.

@@ -1,10 +1,12 @@
 //! What a run has left that was to replace a file: whether it is to replace it now, or to go.
+use crate::encoding::lone::is_nothing;
 use crate::refusing::refused;
 use store_faults::FileFault;
 use store_files::{
-    Sought, StoredFile, described_for_sure, has_fragments_of, is_as_described, is_whole,
+    StoredFile, descriptions_for_sure, fitting_description, has_fragments_of, is_whole,
     shares_fragment,
 };
+use store_folder::Described;
 
 /// What was begun that is to replace a file.
 #[derive(Clone, Copy)]
@@ -14,30 +16,61 @@ pub(crate) struct Begun<'a, 'p> {
     pub(crate) is_new: bool,
 }
 
-/// Whether what was begun is to replace the file of a name: something describes it, and it is whole. Else it is to go, if nothing describes
-/// it; but if it was given names already, or may be described on a disk that is away, it may be all that there is of the file, and is
-/// refused. So is what was damaged since another run made it.
-pub(crate) fn is_to_replace(
+/// What describes what was begun, if that is to replace the file of a name: it is whole, and its fragments give what is said of it, as
+/// `read` finds that: first what most copies say, also without fragments that are damaged or can't be read. Else it is to go, if nothing
+/// describes it, or if descriptions are all that there is of it. But if it was given names already, or if more of it may be on a disk that
+/// is away, it may be all that there is of the file, and is refused. So is what was damaged since another run made it.
+pub(crate) fn to_replace(
     rt: &HostRuntime,
     begun: &Begun<'_, '_>,
     name: &str,
-) -> Result<bool, FileFault> {
+) -> Result<Option<Described>, FileFault> {
     let file = &begun.file;
-    let Some(described) = described_for_sure(rt, file)? else {
-        return if is_half_given(rt, file, name)? {
-            Err(too_little(rt, file.name))
+    let said = descriptions_for_sure(rt, file)?;
+    let whole = whole_of(rt, file, said.as_slice())?;
+    let Some(first) = whole.first().copied() else {
+        return if is_to_go(rt, file, name, said.as_slice())? {
+            Ok(None)
         } else {
-            Ok(false)
+            Err(too_little(rt, file.name))
         };
     };
-    // A disk that was away when all of this was done elsewhere has its share of it alone.
-    if !is_whole(rt, file, described.code)? {
-        return Err(too_little(rt, file.name));
+    if begun.is_new {
+        return Ok(Some(first));
     }
-    if !begun.is_new && !is_as_described(rt, &Sought::new(file, described))? {
-        return Err(damaged(rt, file.name));
+    match fitting_description(rt, file, whole.as_slice())? {
+        Some(described) => Ok(Some(described)),
+        None => Err(damaged(rt, file.name)),
     }
-    Ok(true)
+}
+
+/// Those of some descriptions of a stripe by whose code all of it is there. A disk that was away when all of this was done elsewhere has
+/// its share of it alone.
+fn whole_of(
+    rt: &HostRuntime,
+    file: &StoredFile<'_, '_>,
+    said: &[Described],
+) -> Result<Vec<Described>, FileFault> {
+    let mut whole = Vec::new(rt.alloc());
+    for described in said {
+        if is_whole(rt, file, described.code)? {
+            whole.push(*described)?;
+        }
+    }
+    Ok(whole)
+}
+
+/// Whether what was begun, of which this is said and not all is there, is to go.
+fn is_to_go(
+    rt: &HostRuntime,
+    file: &StoredFile<'_, '_>,
+    name: &str,
+    said: &[Described],
+) -> Result<bool, FileFault> {
+    if said.is_empty() {
+        return Ok(!is_half_given(rt, file, name)?);
+    }
+    is_nothing(rt, file, name, said)
 }
 
 /// That the fragments of a stripe which is to replace another one don't give its file.
@@ -68,8 +101,6 @@ fn is_half_given(
     if !has_fragments_of(rt, staged, &file)? {
         return Ok(true);
     }
-    match described_for_sure(rt, &file)? {
-        Some(described) => Ok(!is_as_described(rt, &Sought::new(&file, described))?),
-        None => Ok(true),
-    }
+    let said = descriptions_for_sure(rt, &file)?;
+    Ok(fitting_description(rt, &file, said.as_slice())?.is_none())
 }

@@ -107,7 +107,7 @@ fn filled<F: Folder>(
 }
 
 /// The digest of a text.
-fn digest_of_text(text: &str) -> Digest
+pub(crate) fn digest_of_text(text: &str) -> Digest
     ensures { result ≡ sha256 text.now }
 {
     Sha256::digest(text.as_bytes())

@@ -9,20 +9,21 @@ ghost use Rattle.store_encoding.specs.Digests.{KeepsBeside, KeepsBut, KeepsDiges
 ghost use Rattle.store_encoding.specs.Names.{AreApart, CanGive, IsPairOf, Replaces, path_of};
 ghost use Rattle.store_encoding.specs.Replaced.{AllGot, GivesOnly, Goes, IsGivenTo, ReplacesFile};
 
-use crate::encoding::begun::{Begun, is_to_replace};
-use crate::encoding::placing::first_of;
+use crate::encoding::begun::{Begun, to_replace};
+use crate::encoding::discarding::{after_discarding, discard_staged};
+use crate::encoding::lost_descriptions::mend_descriptions;
 use crate::encoding::source::no_name;
 use crate::encoding::stripe_files::{StripeFiles, are_apart, refuse_irregular};
 use crate::encoding::subfolders::make_folders;
-use crate::encoding::sums::{forget_digests, write_new_sums};
+use crate::encoding::sums::{forget_digests, has_digest, write_new_sums};
 use crate::encoding::{Given, encode_as};
 use crate::own_folders::{has_folders, remove_own_folders};
 use crate::removing::{has_any, remove_names};
 use folders::Folder;
-use std::alloc::{AllocError, Global};
+use lrc_code::Code;
 use std::slice;
 use std::thread::Threads;
-use store_faults::{FileFault, device};
+use store_faults::{FileFault, StoreFault, device};
 use store_files::{StoredFile, Target, has_some, own_description, refuse_linked, staged_name};
 use store_folder::{SystemFolder, description_names, first_description_name, give_name};
 
@@ -39,11 +40,11 @@ pub(crate) fn replace<R: Threads + Sync>(
     let had_folders = has_folders(rt, target, staged)?;
     if let Err(fault) = encode_staged(threads, rt, target, staged, given) {
         // All of it is of this run, and none replaces the file, whose encoding failed.
-        let removed = discard_staged(rt, target, staged);
+        let discarded = discard_staged(rt, target, staged);
         if !had_folders {
             drop(remove_own_folders(rt, target, staged, name));
         }
-        return Err(first_of(removed, fault));
+        return Err(after_discarding(rt, given.progress, fault, discarded));
     }
     finish_staged(rt, target, name, staged, true)
 }
@@ -60,21 +61,10 @@ fn encode_staged<R: Threads + Sync>(
     encode_as(threads, rt, target, staged, given)
 }
 
-/// Takes away what there is of a stripe that was to replace another one.
-fn discard_staged(
-    rt: &HostRuntime,
-    target: &mut Target<'_>,
-    staged: &str,
-) -> Result<(), FileFault> {
-    let files = StripeFiles::of(rt.alloc(), target, staged)?;
-    refuse_linked(rt, target, files.descriptions.as_slice())?;
-    refuse_linked(rt, target, files.fragments.as_slice())?;
-    remove_all(rt, &mut SystemFolder::new(rt), target, &files)
-}
-
 /// Ends what a run has begun that was to replace the file of a name. If all of the new file is there, it replaces the old one. What nothing
-/// describes is removed, unless it has names of the old one already. What is described, but has too few fragments or damaged ones, stays,
-/// and the file is refused. Where nothing was begun, its folders stay too: they may be somebody else's.
+/// describes is removed, unless it has names of the old one already, and so are descriptions without fragments. What is described, but has
+/// too few fragments, or too many damaged ones, stays, and the file is refused. Where nothing was begun, its folders stay too: they may be
+/// somebody else's.
 pub(crate) fn finish_replacing(
     rt: &HostRuntime,
     target: &mut Target<'_>,
@@ -124,11 +114,49 @@ fn replace_files(
     let staged = begun.file.name;
     let mut files = StripeFiles::of(alloc, target, staged)?;
     let mut replaced = StripeFiles::of(alloc, target, name)?;
-    let added = add_own_description(rt, target, staged, name, &mut files, &mut replaced);
-    match added.and_then(|()| add_lost_descriptions(rt, target, &mut files, &mut replaced)) {
-        Ok(()) => replace_begun(rt, target, begun, name, &files, &replaced),
+    match readied(rt, target, begun, name, &mut files, &mut replaced) {
+        Ok(is_whole) => replace_begun(rt, target, name, &files, &replaced, is_whole),
         Err(fault) => Err(fault),
     }
+}
+
+/// Whether the files of a stripe that has been begun are to replace those of another one. Then each has its description beside it, as far
+/// as that can be, and the names are added of what goes with the old ones.
+fn readied(
+    rt: &HostRuntime,
+    target: &mut Target<'_>,
+    begun: &Begun<'_, '_>,
+    name: &str,
+    files: &mut StripeFiles,
+    replaced: &mut StripeFiles,
+) -> Result<bool, FileFault> {
+    add_own_description(rt, target, begun.file.name, name, files, replaced)?;
+    refuse_linked(rt, target, files.descriptions.as_slice())?;
+    refuse_linked(rt, target, files.fragments.as_slice())?;
+    if !are_apart(target.folder, files, replaced) {
+        return Err(no_name(rt, name));
+    }
+    let Some(described) = to_replace(rt, begun, name)? else {
+        return Ok(false);
+    };
+    refuse_wider(rt, target, described.code)?;
+    // Among those to be replaced may be an old description as a fragment: here each is what its name says.
+    refuse_irregular(rt, target, &StripeFiles::of(rt.alloc(), target, name)?)?;
+    mend_descriptions(rt, target, &described, files, replaced)?;
+    Ok(true)
+}
+
+/// Refuses to replace a file by a stripe of a code that has more fragments: those beyond the places of the store's code would get no names.
+fn refuse_wider(rt: &HostRuntime, target: &Target<'_>, code: Code) -> Result<(), FileFault> {
+    if code.data_count() <= target.code.data_count() {
+        return Ok(());
+    }
+    Err(FileFault::Store {
+        fault: StoreFault::OtherCode {
+            folder: String::from_str(rt.alloc(), target.folder)?,
+            other: code.text(),
+        },
+    })
 }
 
 /// Adds the name of the description of a stripe in the store's own folder, if it has one, and beside it that of the stripe which is to
@@ -150,43 +178,18 @@ fn add_own_description(
     Ok(())
 }
 
-/// Adds the names of the descriptions that are lost of a stripe which is to replace another one, each beside that of the old one. That
-/// goes then as an old fragment does whose new one was lost: beside the new fragments it would say another file than they give.
-fn add_lost_descriptions(
-    rt: &HostRuntime,
-    target: &Target<'_>,
-    begun: &mut StripeFiles,
-    replaced: &mut StripeFiles,
-) -> Result<(), FileFault> {
-    let alloc = rt.alloc();
-    for (name, other) in begun.descriptions.iter().zip(replaced.descriptions.iter()) {
-        if !has_any(rt, target, slice::from_ref(name))? {
-            let (lost, old) = (name.as_str(), other.as_str());
-            begun.fragments.push(String::from_str(alloc, lost)?)?;
-            replaced.fragments.push(String::from_str(alloc, old)?)?;
-        }
-    }
-    Ok(())
-}
-
 /// Gives the files of a stripe that has been begun the names of those that it is to replace, if they are whole, and else removes them.
 fn replace_begun(
     rt: &HostRuntime,
     target: &mut Target<'_>,
-    begun: &Begun<'_, '_>,
     name: &str,
     files: &StripeFiles,
     replaced: &StripeFiles,
+    is_whole: bool,
 ) -> Result<(), FileFault> {
-    refuse_linked(rt, target, files.descriptions.as_slice())?;
-    refuse_linked(rt, target, files.fragments.as_slice())?;
+    // Names were added since.
     if !are_apart(target.folder, files, replaced) {
         return Err(no_name(rt, name));
-    }
-    let is_whole = is_to_replace(rt, begun, name)?;
-    if is_whole {
-        // Among those to be replaced are old descriptions as fragments: here each is what its name says.
-        refuse_irregular(rt, target, &StripeFiles::of(rt.alloc(), target, name)?)?;
     }
     let system = &mut SystemFolder::new(rt);
     end(rt, system, target, files, replaced, is_whole)
@@ -353,26 +356,32 @@ fn give_one<F: Folder>(
         return Ok(());
     }
     match give_name(rt, files, path.as_str(), to.as_str()) {
-        Ok(()) => Ok(note_digest(alloc, target, name, other)?),
+        Ok(()) => Ok(note_digest(rt, target, name, other)?),
         Err(error) => Err(device(alloc, to.as_str(), error)),
     }
 }
 
-/// Notes that the file of a name has another name too: the digest of the one is that of the other.
+/// Notes that the file of a name has another name too: the digest of the one is that of the other. Where the one has none, since the run
+/// that made it was killed, the other keeps the one that it has if that is the file's: a run may have noted it before it was killed.
 fn note_digest(
-    alloc: Global,
+    rt: &HostRuntime,
     target: &mut Target<'_>,
     name: &str,
     other: &str,
-) -> Result<(), AllocError>
+) -> Result<(), FileFault>
     ensures folder { target.new.folder ≡ target.old.folder }
     ensures sums { OnOk result (KeepsBut other.now target.old.sums target.new.sums) }
 {
     if let Some(digest) = target.sums.digest_of(name).copied() {
-        target.sums.set(alloc, other, digest)?;
+        target.sums.set(rt.alloc(), other, digest)?;
         target.is_changed = true;
-    } else if target.sums.remove(other) {
-        target.is_changed = true;
+        return Ok(());
+    }
+    let Some(digest) = target.sums.digest_of(other).copied() else {
+        return Ok(());
+    };
+    if !has_digest(rt, target, name, &digest)? {
+        target.is_changed = target.sums.remove(other) || target.is_changed;
     }
     Ok(())
 }

@@ -11,8 +11,10 @@ use folders::Folder;
 use std::alloc::Global;
 use std::io::{self, ErrorKind};
 use store_faults::{FileFault, device};
-use store_files::Target;
-use store_folder::{Links, SUMS_NAME, Sums, SumsFault, path_in, read_sums, write_over};
+use store_files::{Target, digest_at};
+use store_folder::{
+    Digest, Links, SUMS_NAME, Sums, SumsFault, look_at, path_in, read_sums, write_over,
+};
 use store_progress::allow_file;
 
 /// The digests that the store's file of them has; none where there is no such file.
@@ -43,6 +45,27 @@ pub(crate) fn forget_digests(target: &mut Target<'_>, names: &[String])
     'names: for name in names {
         target.is_changed = target.sums.remove(name.as_str()) || target.is_changed;
     }
+}
+
+/// Whether the file of a name has a digest. Of one that can't be read nothing is known.
+pub(crate) fn has_digest(
+    rt: &HostRuntime,
+    target: &Target<'_>,
+    name: &str,
+    digest: &Digest,
+) -> Result<bool, FileFault> {
+    let path = target.path(rt.alloc(), name)?;
+    match digest_of_file(rt, path.as_str(), target.links) {
+        Ok(found) => Ok(found == *digest),
+        Err(error) if error.kind() == ErrorKind::OutOfMemory => Err(FileFault::OutOfMemory),
+        Err(_) => Ok(false),
+    }
+}
+
+/// The digest of the regular file at a path.
+fn digest_of_file(rt: &HostRuntime, path: &str, links: Links) -> io::Result<Digest> {
+    let length = look_at(rt, path, links)?.len();
+    digest_at(rt, path, length, links)
 }
 
 /// Writes the digests of a store in place of those that are there, if there are new ones. Whenever that ends, their path has what it had,

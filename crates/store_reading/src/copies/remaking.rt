@@ -2,12 +2,11 @@
 ghost use Rattle.std.specs.Prelude.{None};
 
 use crate::copies::DescribedStripe;
-use crate::reading::fragments::{Missing, open_fragments, survivors_of};
 use sha2::{Digest as _, Sha256};
 use std::alloc::{AllocError, Global};
 use std::io;
 use store_faults::FileFault;
-use store_files::{Sought, StoredFile};
+use store_files::{Missing, Sought, StoredFile, open_fragments, survivors_of};
 use store_folder::{Described, Digest, Site};
 use store_repair::{MendFault, NewFragment, fragment_length, read_file};
 

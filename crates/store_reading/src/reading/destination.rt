@@ -8,8 +8,6 @@ ghost use Rattle.store_folder.specs.Written.{PutsOne};
 ghost use Rattle.store_files.specs.Digests.{HasDigest};
 ghost use Rattle.store_reading.specs.Written.{GivesFile, HasFile, IsRight, PutsFile};
 
-use crate::reading::choosing::{set_that_fits, some_that_fit};
-use crate::reading::fragments::{Fragments, survivors_of};
 use crate::reading::output::{changed_meanwhile, write_into};
 use crate::reading::refusing::refuse_in_store;
 use folders::Folder;
@@ -18,7 +16,7 @@ use std::alloc::Global;
 use std::fs::{self, File, Metadata};
 use std::io::{self, ErrorKind};
 use store_faults::{FileFault, device};
-use store_files::{Digested, Sought};
+use store_files::{Digested, Fragments, Sought, set_that_fits, some_that_fit, survivors_of};
 use store_folder::{
     NewFile, Placed, SystemFolder, create_new, create_private, discard_new, folder_of, place_again,
     place_new,

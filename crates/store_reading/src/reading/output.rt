@@ -2,14 +2,13 @@
 ghost use Rattle.std.specs.Prelude.{◌≡◌, [], OnOk, Some, vec_len};
 ghost use Rattle.store_files.specs.Digests.{HasDigest};
 
-use crate::reading::fragments::{Fragments, survivors_of};
 use folders::Written;
 use lrc_code::PlaceSet;
 use std::alloc::Global;
 use std::fs::File;
 use std::io::{self, BufWriter, Printer, Write};
 use store_faults::{FileFault, device};
-use store_files::{Digested, Sought};
+use store_files::{Digested, Fragments, Sought, survivors_of};
 use store_progress::{Counted, allow_output};
 use store_repair::{MendFault, NewFragment, read_file};
 

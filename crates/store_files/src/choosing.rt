@@ -1,11 +1,11 @@
 //! Which fragments a file is read from, where some are damaged.
 ghost use Rattle.std.specs.Prelude.{◌≡◌, vec_len};
 
-use crate::reading::fragments::{Fragments, gives_file};
+use crate::fragments::{Fragments, gives_file, parts_of};
+use crate::stored_file::{Sought, StoredFile};
 use lrc_code::{Place, PlaceSet};
 use std::io::ErrorKind;
 use store_faults::FileFault;
-use store_files::{Sought, StoredFile};
 use store_folder::{
     Described, SUMS_NAME, SumsFault, description_names, digests_of, path_in, read_description,
     read_sums,
@@ -14,7 +14,7 @@ use store_names::folder_in;
 use store_repair::without;
 
 /// A set of fragments that gives the file: all, or some of them.
-pub(crate) fn set_that_fits(
+pub fn set_that_fits(
     rt: &HostRuntime,
     sought: &Sought<'_, '_>,
     fragments: &Fragments,
@@ -30,7 +30,7 @@ pub(crate) fn set_that_fits(
 
 /// A set of fragments that gives the file where all don't: those that have the digests of the store's sums, those beside which the file's
 /// description is, or no other one, or all but one or two.
-pub(crate) fn some_that_fit(
+pub fn some_that_fit(
     rt: &HostRuntime,
     sought: &Sought<'_, '_>,
     fragments: &Fragments,
@@ -39,8 +39,10 @@ pub(crate) fn some_that_fit(
 {
     let all = fragments.set;
     let name = sought.file.name;
+    let mut tried = Vec::new(rt.alloc());
+    tried.push(read_of(sought, all))?;
     let listed = with_digests(rt, sought, fragments)?;
-    if listed.len() < all.len() && gives_file(rt, sought, fragments, listed)? {
+    if gives_anew(rt, sought, fragments, listed, &mut tried)? {
         sought.file.say(
             rt,
             format!(in rt.alloc();
@@ -49,10 +51,39 @@ pub(crate) fn some_that_fit(
         );
         return Ok(Some(listed));
     }
-    match with_description(rt, sought, fragments)? {
+    match with_description(rt, sought, fragments, &mut tried)? {
         Some(set) => Ok(Some(set)),
-        None => without_some(rt, sought, fragments, all),
+        None => without_some(rt, sought, fragments, all, &mut tried),
     }
+}
+
+/// Whether some fragments give the file. Those that are read as others were that don't give it aren't read once more.
+fn gives_anew(
+    rt: &HostRuntime,
+    sought: &Sought<'_, '_>,
+    fragments: &Fragments,
+    set: PlaceSet,
+    tried: &mut Vec<PlaceSet>,
+) -> Result<bool, FileFault>
+    requires { vec_len fragments.now.opened ≡ 16 }
+{
+    let read = read_of(sought, set);
+    if tried.contains(&read) {
+        return Ok(false);
+    }
+    tried.push(read)?;
+    gives_file(rt, sought, fragments, set)
+}
+
+/// The fragments that a file is read from where some are to give it: its parts alone if all of these are among them, else all.
+fn read_of(sought: &Sought<'_, '_>, set: PlaceSet) -> PlaceSet {
+    let parts = parts_of(sought);
+    for place in &Place::ALL {
+        if parts.has(*place) && !set.has(*place) {
+            return set;
+        }
+    }
+    parts
 }
 
 /// The fragments beside which the file's description is, or no other one, if they give the file, also without one or two. A disk that was
@@ -61,6 +92,7 @@ fn with_description(
     rt: &HostRuntime,
     sought: &Sought<'_, '_>,
     fragments: &Fragments,
+    tried: &mut Vec<PlaceSet>,
 ) -> Result<Option<PlaceSet>, FileFault>
     requires { vec_len fragments.now.opened ≡ 16 }
 {
@@ -69,15 +101,15 @@ fn with_description(
     if unopposed.len() == fragments.set.len() {
         return Ok(None);
     }
-    if described.len() < unopposed.len() && gives_file(rt, sought, fragments, described)? {
+    if gives_anew(rt, sought, fragments, described, tried)? {
         say_described(rt, sought);
         return Ok(Some(described));
     }
-    if gives_file(rt, sought, fragments, unopposed)? {
+    if gives_anew(rt, sought, fragments, unopposed, tried)? {
         say_described(rt, sought);
         return Ok(Some(unopposed));
     }
-    let set = without_some(rt, sought, fragments, unopposed)?;
+    let set = without_some(rt, sought, fragments, unopposed, tried)?;
     if set.is_some() {
         say_described(rt, sought);
     }
@@ -150,12 +182,13 @@ fn without_some(
     sought: &Sought<'_, '_>,
     fragments: &Fragments,
     some: PlaceSet,
+    tried: &mut Vec<PlaceSet>,
 ) -> Result<Option<PlaceSet>, FileFault>
     requires { vec_len fragments.now.opened ≡ 16 }
 {
-    match without_one(rt, sought, fragments, some)? {
+    match without_one(rt, sought, fragments, some, tried)? {
         Some(set) => Ok(Some(set)),
-        None => without_two(rt, sought, fragments, some),
+        None => without_two(rt, sought, fragments, some, tried),
     }
 }
 
@@ -165,13 +198,14 @@ fn without_one(
     sought: &Sought<'_, '_>,
     fragments: &Fragments,
     some: PlaceSet,
+    tried: &mut Vec<PlaceSet>,
 ) -> Result<Option<PlaceSet>, FileFault>
     requires { vec_len fragments.now.opened ≡ 16 }
 {
     let name = sought.file.name;
     for first in &Place::ALL {
         let set = without(sought.described.code, some, *first);
-        if some.has(*first) && gives_file(rt, sought, fragments, set)? {
+        if some.has(*first) && gives_anew(rt, sought, fragments, set, tried)? {
             let first = first.name();
             sought.file.say(
                 rt,
@@ -191,6 +225,7 @@ fn without_two(
     sought: &Sought<'_, '_>,
     fragments: &Fragments,
     some: PlaceSet,
+    tried: &mut Vec<PlaceSet>,
 ) -> Result<Option<PlaceSet>, FileFault>
     requires { vec_len fragments.now.opened ≡ 16 }
 {
@@ -202,7 +237,7 @@ fn without_two(
             if some.has(*first)
                 && some.has(*second)
                 && first.index() < second.index()
-                && gives_file(rt, sought, fragments, set)?
+                && gives_anew(rt, sought, fragments, set, tried)?
             {
                 let first = first.name();
                 let second = second.name();

@@ -2,33 +2,49 @@
 ghost use Rattle.std.specs.Prelude.{◌≡◌, IfOk, length, vec_len};
 ghost use Rattle.store_repair.specs.Files.{fragment_length};
 
+use crate::digesting::{Digested, Unkept};
+use crate::stored_file::Sought;
 use lrc_code::{Place, PlaceSet};
+use std::alloc::{AllocError, Global};
 use std::io::{self, ErrorKind};
 use store_faults::{FileFault, device, words_of};
-use store_files::{Digested, Sought, Unkept};
 use store_folder::{
     Digest, FileFragment, SystemOpen, digest_of, is_absent, open_fragment, path_in,
     refuse_linked_folders,
 };
 use store_progress::Counted;
-use store_repair::{MendFault, Survivors, fragment_length, read_file};
+use store_repair::{MendFault, Survivors, fragment_length, lost_places, read_file};
 
 /// The fragments of a stripe that are there, by the places' indexes.
 #[derive(Drop)]
-pub(crate) struct Fragments {
-    pub(crate) set: PlaceSet,
-    pub(crate) opened: Vec<Option<FileFragment<SystemOpen>>>,
+pub struct Fragments {
+    pub set: PlaceSet,
+    pub opened: Vec<Option<FileFragment<SystemOpen>>>,
 }
 
-/// What is done about fragments that are lost, or can't be opened.
+/// Of which fragments that can't be opened it is said why.
 #[derive(Clone, Copy, PartialEq, Eq)]
-pub(crate) enum Missing {
+pub enum Missing {
+    /// Of all, also of those that are lost.
     Said,
+    /// Of those that aren't lost.
+    UnreadSaid,
     Unsaid,
 }
 
+impl Missing {
+    /// Whether it is said of a fragment that can't be opened for an error of this kind.
+    fn says(self, kind: ErrorKind) -> bool {
+        match self {
+            Missing::Said => true,
+            Missing::UnreadSaid => !is_lost(kind),
+            Missing::Unsaid => false,
+        }
+    }
+}
+
 /// Opens the fragments of a file.
-pub(crate) fn open_fragments(
+pub fn open_fragments(
     rt: &HostRuntime,
     sought: &Sought<'_, '_>,
     missing: Missing,
@@ -53,7 +69,7 @@ pub(crate) fn open_fragments(
     Ok(Fragments { set, opened })
 }
 
-/// Opens a fragment; where that isn't possible, says so.
+/// Opens a fragment; where that isn't possible, says so if that is asked for.
 fn open_at(
     rt: &HostRuntime,
     sought: &Sought<'_, '_>,
@@ -66,7 +82,7 @@ fn open_at(
     match open_below(rt, sought, name.as_str(), path.as_str()) {
         Ok(fragment) => Ok(Some(fragment)),
         Err(error) if error.kind() == ErrorKind::OutOfMemory => Err(FileFault::OutOfMemory),
-        Err(_) if missing == Missing::Unsaid => Ok(None),
+        Err(error) if !missing.says(error.kind()) => Ok(None),
         Err(error) => {
             let why = words_of(alloc, &error)?;
             sought.file.say(
@@ -89,7 +105,7 @@ fn open_below(
     open_fragment(rt, path, sought.length as u64, sought.file.links)
 }
 
-/// Whether some of the fragments give the file that is described.
+/// Whether some of the fragments give the file that is described. What doesn't determine it isn't read.
 pub(crate) fn gives_file(
     rt: &HostRuntime,
     sought: &Sought<'_, '_>,
@@ -98,6 +114,9 @@ pub(crate) fn gives_file(
 ) -> Result<bool, FileFault>
     requires { vec_len fragments.now.opened ≡ 16 }
 {
+    if !are_enough(rt.alloc(), sought, set)? {
+        return Ok(false);
+    }
     let mut counted = Counted {
         file: Digested::new(Unkept::new()),
         rt,
@@ -112,8 +131,29 @@ pub(crate) fn gives_file(
     }
 }
 
+/// Whether the fragments at some places determine those of the file's parts that have bytes of it.
+fn are_enough(alloc: Global, sought: &Sought<'_, '_>, set: PlaceSet) -> Result<bool, AllocError> {
+    let lost = lost_places(alloc, sought.described.code, set, parts_of(sought))?;
+    Ok(lost.several.is_empty())
+}
+
+/// The places of the file's parts that have bytes of it: all data fragments, but for the last ones of a short file.
+pub(crate) fn parts_of(sought: &Sought<'_, '_>) -> PlaceSet {
+    let code = sought.described.code;
+    let mut left = sought.described.length as usize;
+    let mut parts = PlaceSet::empty();
+    for place in code.places() {
+        if left == 0 {
+            break;
+        }
+        parts = parts.with(*place);
+        left = left.saturating_sub(sought.length);
+    }
+    parts
+}
+
 /// Why a fragment can't be read, if the system refuses one: the file may be there with it.
-pub(crate) fn unread_of(
+pub fn unread_of(
     rt: &HostRuntime,
     sought: &Sought<'_, '_>,
     fragments: &Fragments,
@@ -156,7 +196,7 @@ fn is_lost(kind: ErrorKind) -> bool {
 }
 
 /// Some of the fragments, as survivors.
-pub(crate) fn survivors_of<'f>(
+pub fn survivors_of<'f>(
     sought: &Sought<'_, '_>,
     fragments: &'f Fragments,
     set: PlaceSet,

@@ -1,5 +1,5 @@
 use Rattle.std.proofs.Common.{◌≤◌, ◌-◌, vec_len}
-use Rattle.store_files.proofs.as_described.open_all.Given as goal
+use Rattle.store_files.proofs.fragments.open_fragments.Given as goal
 
 abbrev pub invariant-places : goal.invariant-places
 invariant-places l = vec_len l.opened ≤ 16
