@@ -1109,6 +1109,29 @@ def test_replacement_whose_disk_is_away(place, choose):
         shutil.rmtree(kept)
 
 
+def test_replacement_given_at_places_of_one_code(place, choose):
+    """What has names of the old file already stays, with these, also if they are of places that one code alone has."""
+    calls, store, count, code = Calls(place), place / "store", place / "count", ["--code", "12-2-2"]
+    old, new = choose.randbytes(2_000), choose.randbytes(3_001)
+    run("encode", *code, store, source(place, "a", old), status=0)
+    shutil.copytree(store, count)
+    source(place, "a", new)
+    number = calls.run([PROGRAM, "encode", "--replace", *code, count, place / "a"]).kinds.index("rename") + 1
+    hold(calls.run([PROGRAM, "encode", "--replace", *code, store, place / "a"], number, "kill").status == -9, "the run wasn't killed")
+    given = [f"a{STAGED}.{one}" for one in ("x3", "x4", "x5", "y3", "y4", "y5")]
+    for staged in store.glob(f"a{STAGED}.*"):
+        name = store / staged.name.replace(STAGED, "")
+        if staged.name in given:
+            name.unlink()
+            os.link(staged, name)
+        else:
+            staged.unlink()
+    before = lasting(store)
+    for words, data in (([], old), (["--replace"], choose.randbytes(900))):
+        _, err = run("encode", *words, *code, store, source(place, "a", data), status=1)
+        hold("too little of it is there" in err and lasting(store) == before, f"{words}: {err}")
+
+
 def test_read_beside_what_is_not_described(place, choose):
     """Beside what a run has left without a description the old file is read, also if that can't be seen on a disk which fails; and once a
     repair has made again what a killed run had taken away of it, the next run takes all of it away."""

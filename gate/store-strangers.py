@@ -2014,16 +2014,18 @@ def test_rows_that_nobody_reads_yet(place, choose):
     reader, writer = os.pipe()
     # The rows have more bytes than the pipe takes.
     fcntl.fcntl(writer, SET_PIPE_SIZE, 4_096)
-    process = subprocess.Popen([PROGRAM, "repair", "--json", store], stdout=writer, stderr=subprocess.DEVNULL)
+    process = subprocess.Popen([PROGRAM, "repair", "--json", "--workers", "3", store], stdout=writer, stderr=subprocess.DEVNULL)
     os.close(writer)
-    until = time.monotonic() + SECONDS
-    while len([*store.glob("*.x1")]) < len(names) and time.monotonic() < until:
+    until, made = time.monotonic() + SECONDS, 0
+    while made < len(names) and time.monotonic() < until:
         time.sleep(0.05)
+        made = len([*store.glob("*.x1")])
     time.sleep(0.2)
     with open(reader) as output:
         rows = sorted((row["stripe"], row["outcome"]) for row in map(json.loads, output))
     hold(rows == [(name, "rebuilt") for name in names], f"{len(rows)} rows of {len(names)}")
     hold(process.wait(timeout=SECONDS) == 0 and there(store) == files, "the store isn't what it was")
+    hold(made == len(names), f"{made} fragments of {len(names)} were made while nobody read")
 
 
 def test_order_by_what_is_in_the_way(place, choose):
