@@ -92,7 +92,9 @@ class Calls:
     def __init__(self, folder, forks=False):
         self.folder = folder
         self.file = folder / "fail-call.so"
-        self.file.write_bytes(built())
+        # One that is there may be in use.
+        if not self.file.exists():
+            self.file.write_bytes(built())
         self.library = runs.Preloaded(self.file, "FAIL_RECORD", RECORD_SIZE, forks)
 
     def run(self, words, number=0, how="", rest="", output=None):

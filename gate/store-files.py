@@ -219,7 +219,7 @@ def test_verify_beside_a_folder_that_fails(place, choose):
 
 def test_verify_what_cannot_be_read(place, choose):
     """A file of which too little can be read isn't taken for another one: what can't be read is named, with a status that says so."""
-    store, calls, tried = place / "store", Calls(place), set()
+    store, calls, tried = place / "store", Calls(place, forks=True), set()
     run("encode", store, source(place, "a", choose.randbytes(6_000)), status=0)
     for name in ("x1", "x2", "y1", "p0"):
         (store / f"a.{name}").unlink()
@@ -314,7 +314,7 @@ def test_read_to_a_path_that_leads_into_the_store(place, choose):
     # Nor where it can't be seen where a link leads.
     link.unlink()
     link.symlink_to("store/b/x0")
-    calls, command = Calls(place), [PROGRAM, "read", *names, store, "a", "-o", link]
+    calls, command = Calls(place, forks=True), [PROGRAM, "read", *names, store, "a", "-o", link]
     for number, kind in enumerate(calls.run(command).kinds, 1):
         if kind == "look":
             ended = calls.run(command, number, 5)
@@ -371,7 +371,7 @@ def test_read_to_another_name_of_a_fragment(place, choose):
 
 def test_read_to_a_file_once(place, choose):
     """What is written to a new file is read once, and another time only where it isn't the file that is described."""
-    store, data, calls, out = place / "store", choose.randbytes(3_000_000), Calls(place), place / "out"
+    store, data, calls, out = place / "store", choose.randbytes(3_000_000), Calls(place, forks=True), place / "out"
     run("encode", store, source(place, "a", data), status=0)
 
     def reads(*words):
@@ -403,7 +403,7 @@ def test_read_to_a_file_once(place, choose):
 
 def test_fragment_that_fails_beside_damaged_ones(place, choose):
     """Beside two fragments that differ from their digests one that can't be read is left out, too."""
-    store, data, calls, out = place / "store", choose.randbytes(6_000), Calls(place), place / "out"
+    store, data, calls, out = place / "store", choose.randbytes(6_000), Calls(place, forks=True), place / "out"
     run("encode", store, source(place, "a", data), status=0)
     for name in ("a.x0", "a.x1"):
         (store / name).write_bytes(bytes(1_000))
@@ -420,7 +420,7 @@ def test_fragment_that_fails_beside_damaged_ones(place, choose):
 
 def test_reads_of_what_cannot_be_had(place, choose):
     """Fragments that don't determine a file aren't read for it, and those that were read for it in vain not once more."""
-    store, calls = place / "store", Calls(place)
+    store, calls = place / "store", Calls(place, forks=True)
 
     def reads(status, *words):
         ended = calls.run([PROGRAM, "verify", *words, "a"])
@@ -447,7 +447,7 @@ def test_reads_of_what_cannot_be_had(place, choose):
 
 def test_read_to_a_file_killed(place, choose):
     """A run that is killed while it reads to a file, or whose calls fail, leaves it as it was or whole."""
-    store, data, calls = place / "store", choose.randbytes(3_000), Calls(place)
+    store, data, calls = place / "store", choose.randbytes(3_000), Calls(place, forks=True)
     run("encode", store, source(place, "a", data), status=0)
     out = place / "to"
     out.mkdir()
@@ -519,7 +519,7 @@ def test_replace_what_nothing_describes(place, choose):
 def test_replace_killed(place, choose):
     """A run that replaces a file and is killed at any call leaves a store of which the old file or the new one can be read, by the name and
     with an exit status that says so; the same command again ends the work, and so does one that encodes the old file."""
-    calls = Calls(place)
+    calls = Calls(place, forks=True)
     old, new = choose.randbytes(2_000), choose.randbytes(3_001)
     first = place / "first"
     run("encode", first, source(place, "a", old), status=0)
@@ -580,7 +580,7 @@ def test_replace_killed(place, choose):
 def test_replace_failing(place, choose):
     """Whichever call of a run that replaces a file fails, the old file or the new one can be read, and the same command again ends the
     work."""
-    calls = Calls(place)
+    calls = Calls(place, forks=True)
     old, new = choose.randbytes(900), choose.randbytes(1_801)
     first = place / "first"
     run("encode", first, source(place, "a", old), status=0)
@@ -615,7 +615,7 @@ def test_replace_failing(place, choose):
 def test_replace_failing_where_it_clears_up(place, choose):
     """If a run that replaces a file fails, and then can't take away all that it had made, it takes each description that it can, so that
     the old file is read; where one stays, so do all fragments. Both failures are said, and the same command again ends the work."""
-    calls, first = Calls(place), place / "first"
+    calls, first = Calls(place, forks=True), place / "first"
     old, new = choose.randbytes(900), choose.randbytes(1_801)
     run("encode", "--make-folders", *DISKS, first, source(place, "a", old), status=0)
     source(place, "a", new)
@@ -639,6 +639,8 @@ def test_replace_failing_where_it_clears_up(place, choose):
         read = ran("read", *DISKS, store, "a")
         hold(read.returncode == 0 and read.stdout == (old if ended.status and not copies else new), f"{where}: {ended.text()} {copies}")
         hold(rest == "kind" or len(copies) < 2, f"{where}: more than one description is left: {copies}")
+        listed = [name for name in sums_of(store) if STAGED in name]
+        hold(copies or not ended.status or not listed, f"{where}: digests of what nothing describes: {listed}")
         hold(not copies or not ended.status or len(fragments) == 10, f"{where}: {copies} is left, and not all fragments: {fragments}")
         if ended.status and (copies or fragments):
             left_some.add((kind, rest))
@@ -657,7 +659,7 @@ def test_replace_failing_where_it_clears_up(place, choose):
 def begun_replacement(place, choose, *names):
     """A store with a file, and beside it all of one that was to replace it: the run was killed before any of that had its name. Gives the
     bytes of both too."""
-    calls, store, count = Calls(place), place / "store", place / "count"
+    calls, store, count = Calls(place, forks=True), place / "store", place / "count"
     old, new = choose.randbytes(2_000), choose.randbytes(3_001)
     run("encode", "--make-folders", *names, store, source(place, "a", old), status=0)
     shutil.copytree(store, count)
@@ -677,7 +679,7 @@ def test_replacement_that_lost_a_fragment(place, choose):
     whole = lost.read_bytes()
     lost.unlink()
     # Where it can't be seen whether it is lost, that is said.
-    calls, again, tried = Calls(place), place / "again", 0
+    calls, again, tried = Calls(place, forks=True), place / "again", 0
     command = [PROGRAM, "encode", "--replace", again, source(place, "a", new)]
     shutil.copytree(store, again)
     for number, kind in enumerate(calls.run(command).kinds, 1):
@@ -885,7 +887,7 @@ def test_replacement_that_lost_its_descriptions(place, choose):
         (store / f"disk7/a{STAGED}").unlink()
         (store / "disk7/a").unlink()
         (store / f"disk0/a{STAGED}.file").chmod(0o640)
-        calls, again, copies = Calls(place), place / "again", [f"disk{number}/a.file" for number in range(10)]
+        calls, again, copies = Calls(place, forks=True), place / "again", [f"disk{number}/a.file" for number in range(10)]
         command = [PROGRAM, "encode", *DISKS, again, source(place, "a", old)]
         shutil.copytree(store, again)
         ended = calls.run(command)
@@ -916,7 +918,7 @@ def test_replacement_killed_while_it_gets_descriptions(place, choose):
     kept, old, new = begun_replacement(place, choose, *DISKS)
     for number in range(1, 10):
         (kept / f"disk{number}/a{STAGED}.file").unlink()
-    calls = Calls(place)
+    calls = Calls(place, forks=True)
     shutil.copytree(kept, place / "count")
     kinds = calls.run([PROGRAM, "encode", "--replace", *DISKS, place / "count", source(place, "a", new)]).kinds
     hold("link" in kinds[: kinds.index("rename") - 2], f"no description is written: {kinds}")
@@ -939,7 +941,7 @@ def test_replacement_killed_while_it_gets_descriptions(place, choose):
 
 def test_replacement_of_a_code_with_more_fragments(place, choose):
     """What was begun by another code, with more fragments than the run's own has, isn't given the names of these alone: it stays."""
-    wide, calls, store = ["--code", "12-2-2", *DISKS], Calls(place), place / "store"
+    wide, calls, store = ["--code", "12-2-2", *DISKS], Calls(place, forks=True), place / "store"
     old, new = choose.randbytes(2_000), choose.randbytes(3_001)
     run("encode", "--make-folders", *wide, store, source(place, "a", old), status=0)
     shutil.copytree(store, place / "count")
@@ -957,7 +959,7 @@ def test_replacement_of_a_code_with_more_fragments(place, choose):
 
 def test_digests_of_a_replacement_that_was_killed(place, choose):
     """A run that is killed once it has written the digests leaves them right, and so does the next one, which ends what it began."""
-    calls, first = Calls(place), place / "first"
+    calls, first = Calls(place, forks=True), place / "first"
     old, new = choose.randbytes(2_000), choose.randbytes(3_001)
     run("encode", first, source(place, "a", old), status=0)
     (place / "old").mkdir()
@@ -1001,7 +1003,7 @@ def test_replacement_that_most_descriptions_say(place, choose):
 def test_replacement_with_a_fragment_that_fails(place, choose):
     """What was begun replaces the file though a fragment of it can't be opened or read: the others give the new file."""
     kept, old, new = begun_replacement(place, choose)
-    calls, store = Calls(place), place / "again"
+    calls, store = Calls(place, forks=True), place / "again"
     command, staged = [PROGRAM, "encode", "--replace", store, source(place, "a", new)], store / f"a{STAGED}.x1"
     shutil.copytree(kept, store)
     kinds, tried = calls.run(command).kinds, set()
@@ -1049,7 +1051,7 @@ def lasting(store):
 def test_replacement_whose_description_fails(place, choose):
     """What was begun isn't thrown away, nor the old file read, where the only description of the new one can't be read for a while."""
     kept, _, new = begun_replacement(place, choose)
-    calls, store = Calls(place), place / "again"
+    calls, store = Calls(place, forks=True), place / "again"
     command, staged = [PROGRAM, "encode", "--replace", store, place / "a"], store / f"a{STAGED}.file"
     subprocess.run(["cp", "-a", kept, store], check=True)
     renames = [number for number, kind in enumerate(calls.run(command).kinds, 1) if kind == "rename"]
@@ -1078,7 +1080,7 @@ def test_replacement_whose_disk_is_away(place, choose):
     """What has been given names isn't thrown away where the disk that describes it is away, also if the store has no digests."""
     for has_sums in (True, False):
         kept, old, new = begun_replacement(place, choose, *DISKS)
-        calls, store = Calls(place), place / "again"
+        calls, store = Calls(place, forks=True), place / "again"
         for number in range(1, 10):
             (kept / f"disk{number}/a{STAGED}.file").unlink()
         if not has_sums:
@@ -1111,7 +1113,7 @@ def test_replacement_whose_disk_is_away(place, choose):
 
 def test_replacement_given_at_places_of_one_code(place, choose):
     """What has names of the old file already stays, with these, also if they are of places that one code alone has."""
-    calls, store, count, code = Calls(place), place / "store", place / "count", ["--code", "12-2-2"]
+    calls, store, count, code = Calls(place, forks=True), place / "store", place / "count", ["--code", "12-2-2"]
     old, new = choose.randbytes(2_000), choose.randbytes(3_001)
     run("encode", *code, store, source(place, "a", old), status=0)
     shutil.copytree(store, count)
@@ -1136,7 +1138,7 @@ def test_read_beside_what_is_not_described(place, choose):
     """Beside what a run has left without a description the old file is read, also if that can't be seen on a disk which fails; and once a
     repair has made again what a killed run had taken away of it, the next run takes all of it away."""
     store, old, new = begun_replacement(place, choose, *DISKS)
-    calls, command = Calls(place), [PROGRAM, "read", *DISKS, store, "a"]
+    calls, command = Calls(place, forks=True), [PROGRAM, "read", *DISKS, store, "a"]
     for number in range(10):
         (store / f"disk{number}/a{STAGED}.file").unlink()
     failing, tried = store / f"disk3/a{STAGED}.file", 0
@@ -1181,6 +1183,20 @@ def test_replacement_that_was_damaged(place, choose):
         hold(run("read", store, "a", status=0)[0] == (new if is_read else old), f"{damaged}: another file is read")
         hold(not [it for it in there(store) if STAGED in it], f"{damaged}: left {sorted(there(store))}")
         shutil.rmtree(store)
+
+
+def test_replacement_described_as_empty(place, choose):
+    """A description of a file without bytes isn't one of fragments that have some: it replaces nothing."""
+    store, _, new = begun_replacement(place, choose, *DISKS)
+    other = place / "other"
+    run("encode", other, source(place, "empty", b""), status=0)
+    (store / f"disk9/a{STAGED}.file").write_bytes((other / "empty.file").read_bytes())
+    for number in (0, 1, 2, 6):
+        fragment = store / f"disk{number}/a{STAGED}"
+        fragment.write_bytes(bytes(fragment.stat().st_size))
+    before = lasting(store)
+    _, err = run("encode", *DISKS, store, source(place, "a", new), status=1)
+    hold("don't give the file" in err and lasting(store) == before, err)
 
 
 def test_replace_leaves_what_is_no_description(place, choose):
@@ -1331,7 +1347,7 @@ def test_folders_of_others_stay(place, choose):
 
 def test_digests_of_blocks_that_fail(place, choose):
     """A file of whose fragments one can't be read again, for its digest, isn't encoded, also where only its first block can't be read."""
-    calls, store, file = Calls(place), place / "store", source(place, "a", choose.randbytes(6 * 300_000))
+    calls, store, file = Calls(place, forks=True), place / "store", source(place, "a", choose.randbytes(6 * 300_000))
     command, tried = [PROGRAM, "encode", store, file], set()
     kinds = calls.run(command).kinds
     named = kinds.index("link")
@@ -1352,7 +1368,7 @@ def test_digests_of_blocks_that_fail(place, choose):
 
 def test_what_a_fault_of_encoding_is_of(place, choose):
     """What can't be read is said of the file, and what can't be written of the fragments in the store."""
-    calls, store, file = Calls(place), place / "store", source(place, "a", choose.randbytes(900))
+    calls, store, file = Calls(place, forks=True), place / "store", source(place, "a", choose.randbytes(900))
     command = [PROGRAM, "encode", store, file]
     kinds, said = calls.run(command).kinds, {}
     for number, kind in enumerate(kinds, 1):
@@ -1386,7 +1402,7 @@ def test_digests_keep_their_rights(place, choose):
 
 def test_files_that_come_meanwhile(place, choose):
     """What another program puts under one of a file's names while this is encoded stays, and the file isn't said to be encoded."""
-    calls, data = Calls(place), choose.randbytes(900)
+    calls, data = Calls(place, forks=True), choose.randbytes(900)
     file = source(place, "a", data)
     kinds = calls.run([PROGRAM, "encode", place / "count", file]).kinds
     links = [number for number, kind in enumerate(kinds, 1) if kind == "link"]
@@ -1404,7 +1420,7 @@ def test_files_that_come_meanwhile(place, choose):
 
 def test_order_of_calls(place, choose):
     """What is written is on the disk before it gets a name, and the names are before the run ends: also those of folders that are made."""
-    calls, store, file = Calls(place), place / "store", source(place, "a", choose.randbytes(900))
+    calls, store, file = Calls(place, forks=True), place / "store", source(place, "a", choose.randbytes(900))
     names, ordered = ["--names", "{stripe}/{place}"], []
 
     def is_ordered(*words):
@@ -1490,7 +1506,7 @@ def test_remove(place, choose):
     hold(are_right(store), "digests of what is gone are left beside a fragment without one")
     run("encode", store, source(place, "c", b"c"), status=0)
     (store / LEFTOVER).write_bytes(b"half")
-    calls = Calls(place)
+    calls = Calls(place, forks=True)
     shutil.copytree(store, place / "count")
     unlink = calls.run([PROGRAM, "remove", place / "count", "c"]).kinds.index("unlink") + 1
     ended = calls.run([PROGRAM, "remove", store, "c"], unlink, 5)
@@ -1600,7 +1616,7 @@ def test_what_lists_take(place, choose):
 
 def test_remove_killed(place, choose):
     """A run that takes a file out and is killed at any call leaves the others as they are, and the same command ends the work."""
-    calls, data = Calls(place), choose.randbytes(600)
+    calls, data = Calls(place, forks=True), choose.randbytes(600)
     first = place / "first"
     run("encode", first, source(place, "a", data), source(place, "b", data), status=0)
     shutil.copytree(first, place / "count")
@@ -1624,7 +1640,7 @@ def test_remove_killed(place, choose):
 
 def test_remove_killed_beside_a_replacement(place, choose):
     """A run that takes out a file which was being replaced, and is killed, leaves the new file or none, and the same command ends it."""
-    calls = Calls(place)
+    calls = Calls(place, forks=True)
     for names in ([], DISKS):
         begun, old, new = begun_replacement(place, choose, *names)
         words = ["--code", "6-2-2", *names]
@@ -1656,7 +1672,7 @@ def test_remove_by_the_name_of_a_description(place, choose):
     """What has the name of a file's descriptions is no file that could be taken out."""
     store = place / "store"
     run("encode", "--make-folders", *DISKS, store, source(place, "a", choose.randbytes(500)), status=0)
-    files, calls = there(store), Calls(place)
+    files, calls = there(store), Calls(place, forks=True)
     command = [PROGRAM, "remove", *CODED, store, "a.file"]
     (store / "disk0/a.file").write_bytes(b"odd")
     files["disk0/a.file"] = b"odd"
@@ -1670,9 +1686,23 @@ def test_remove_by_the_name_of_a_description(place, choose):
     hold(set(there(store)) == {"SHA256SUMS"}, sorted(there(store)))
 
 
+def test_remove_beside_an_odd_description(place, choose):
+    """What has the name of a description and is none stays, and no digest is left by which a repair would make the file again."""
+    store, data = place / "store", choose.randbytes(900)
+    run("encode", store, source(place, "a", data), source(place, "b", b"b"), status=0)
+    (store / "a.file").unlink()
+    (store / "a.file").mkdir()
+    _, err = run("remove", store, "a", status=1)
+    hold("a.file: is no regular file, and isn't removed" in err and (store / "a.file").is_dir(), err)
+    hold(not [name for name in sums_of(store) if name.startswith("a.")], f"digests are left: {sums_of(store)}")
+    (store / "a.file").rmdir()
+    run("remove", store, "a", status=0)
+    hold(not [name for name in there(store) if name.startswith("a.")] and are_right(store), f"left {sorted(there(store))}")
+
+
 def test_remove_where_the_digests_cannot_be_written(place, choose):
     """A file that stays, since the digests can't be written once, keeps its digests, also where they are written for the next one."""
-    calls, first = Calls(place), place / "first"
+    calls, first = Calls(place, forks=True), place / "first"
     run("encode", first, source(place, "a", choose.randbytes(600)), source(place, "b", b"b"), status=0)
     shutil.copytree(first, place / "count")
     kinds = calls.run([PROGRAM, "remove", place / "count", "a", "b"]).kinds
@@ -1716,7 +1746,7 @@ def test_remove_beside_an_odd_fragment(place, choose):
 def test_remove_where_a_disk_fails(place, choose):
     """A file that something still describes has its digests: where a description can't be taken out, they are written again. Where only
     fragments stay, what was to replace the file goes too. The same command ends the work once the disk can be written."""
-    calls, tried = Calls(place), set()
+    calls, tried = Calls(place, forks=True), set()
     for begins in (False, True):
         if begins:
             first, _, data = begun_replacement(place, choose, *DISKS)
@@ -1770,7 +1800,7 @@ def test_standard_input(place, choose):
     run("encode", store, "-", "--as", "empty", status=0)
     hold(decoded(store, "empty") == b"", "nothing isn't what it was")
     # A read that a signal interrupts is made again.
-    calls = Calls(place)
+    calls = Calls(place, forks=True)
     command = [PROGRAM, "encode", store, "-", "--as", "empty"]
     reads = [number for number, kind in enumerate(calls.run(command).kinds, 1) if kind == "read"]
     tried = [ended for ended in (calls.run(command, number, 4) for number in reads) if ended.paths == ("/dev/null",)]
@@ -1819,7 +1849,7 @@ def test_make_folders(place, choose):
     _, err = run("encode", "--make-folders", "--names", "disk4/{stripe}/{place}", store, place / "n", status=3)
     hold("its folder is a link" in err and not [*outside.iterdir()], f"a folder was made outside the store: {err}")
     # None is made for a file that can't be read.
-    calls, store = Calls(place), place / "unread"
+    calls, store = Calls(place, forks=True), place / "unread"
     words = [PROGRAM, "encode", "--make-folders", *DISKS, store, place / "n"]
     for number, kind in enumerate(calls.run(words).kinds, 1):
         if kind == "open":
@@ -2035,7 +2065,7 @@ def test_what_replacing_would_mend(place, choose):
 
 def test_descriptions_from_digests(place, choose):
     """A description of which no copy is left is made again where the digests determine it, of files of each length of padding."""
-    calls = Calls(place)
+    calls = Calls(place, forks=True)
 
     def reads(store):
         return calls.run([PROGRAM, "scrub", "-j", "1", store]).kinds.count("read")

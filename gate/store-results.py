@@ -412,7 +412,7 @@ def last_calls(calls, command, *kinds):
 def test_errors(place, choose):
     """An error is said in the system's words without its number: of a copy of a description and of a fragment whose names have such a
     number, and of the store's folder, which is a fault of a device."""
-    source, store, calls = place / "a (os error 2)", place / "b", Calls(place)
+    source, store, calls = place / "a (os error 2)", place / "b", Calls(place, forks=True)
     source.write_bytes(b"some text")
     run("encode", store, source, status=0)
     (store / "SHA256SUMS").unlink()
@@ -441,7 +441,7 @@ def test_errors(place, choose):
 def test_copies_that_cannot_be_made(place, _choose):
     """Whichever call fails while a copy of a description is made, nothing is left of it under another name, and the copy isn't there in
     part. The last of the calls writes its name to the disk, which is that of its folder."""
-    source, store, calls, names = place / "a", place / "b", Calls(place), ["--names", "{stripe}/{place}"]
+    source, store, calls, names = place / "a", place / "b", Calls(place, forks=True), ["--names", "{stripe}/{place}"]
     source.write_bytes(b"some text")
     run("encode", "--make-folders", *names, store, source, status=0)
     copy = store / "a/a.file.copy"

@@ -204,7 +204,7 @@ def test_report_while_it_is_made(place, choose):
     store, reports = place / "making", place / "making-reports"
     lay(store, choose)
     reports.mkdir()
-    report, calls = reports / "report.csv", Calls(place)
+    report, calls = reports / "report.csv", Calls(place, forks=True)
     command = [PROGRAM, "scrub", store, "--report", report]
     link = calls.run(command).kinds.index("link") + 1
     report.unlink()
@@ -291,7 +291,7 @@ def test_report_that_fails(place, choose):
     reports.mkdir()
     report = reports / "report.csv"
     report.write_text("old")
-    calls = Calls(place)
+    calls = Calls(place, forks=True)
     command = [PROGRAM, "repair", store, "--report", report]
     ran = calls.run(command)
     hold(ran.status == 0, ran.text())
@@ -642,7 +642,7 @@ def test_locks_that_cannot_be_read(place, choose):
 def test_leftovers_that_cannot_be_locked(place, choose):
     """Where the system can't lock what a killed run left, it goes if it is in the store, whose folder is locked, and stays where a link
     leads."""
-    calls, store, other = Calls(place), place / "unlocked", place / "unlocked-other"
+    calls, store, other = Calls(place, forks=True), place / "unlocked", place / "unlocked-other"
     lay(store, choose)
     other.mkdir()
     (store / "s.x0").unlink()
@@ -664,7 +664,7 @@ def test_leftovers_that_cannot_be_locked(place, choose):
 
 def test_leftover_of_a_contradiction(place, choose):
     """What was made of a contradiction and can't be taken away is said, with the status of a device."""
-    calls, store = Calls(place), place / "contradiction"
+    calls, store = Calls(place, forks=True), place / "contradiction"
     files = lay(store, choose)
     (store / "s.x1").write_bytes(bytes(255 - byte for byte in files["s.x1"]))
     (store / "s.x2").unlink()
@@ -681,7 +681,7 @@ def test_leftover_of_a_contradiction(place, choose):
 
 def test_reads_for_what_cannot_be_made(place, choose):
     """For a fragment that can't be made no more is read than for one that can be."""
-    calls, store = Calls(place), place / "unmade"
+    calls, store = Calls(place, forks=True), place / "unmade"
     files = lay(store, choose)
     (store / "SHA256SUMS").write_text("".join(f"{digest(data)}  {name}\n" for name, data in files.items()))
     command = [PROGRAM, "repair", store, "--workers", "1"]
@@ -714,7 +714,7 @@ def test_fragments_that_cannot_be_looked_at(place, choose):
 
 def test_unread_fragment_is_said_once(place, choose):
     """Of a fragment that can't be read nothing more is said where damaged ones are replaced."""
-    calls, store, ended = Calls(place), place / "unread", None
+    calls, store, ended = Calls(place, forks=True), place / "unread", None
     files = lay(store, choose)
     command = [PROGRAM, "repair", store, "--code", "6-2-2", "--replace-damaged", "--workers", "1"]
     for number, kind in enumerate(calls.run(command).kinds, 1):
@@ -752,7 +752,7 @@ def test_lock_that_cannot_be_given_back(place, choose):
     """A run that can't take its part's lock away at its end says so, with the status of a device, and the next run of the part does."""
     store = place / "kept-lock"
     lay(store, choose)
-    calls, lock = Calls(place), store / ".rebuild-store-part-1-of-1"
+    calls, lock = Calls(place, forks=True), store / ".rebuild-store-part-1-of-1"
     command = [PROGRAM, "repair", store, "--part", "1/1"]
     ran = calls.run(command, calls.run(command).kinds.index("unlink") + 1, errno.EIO)
     hold(ran.status == 3 and f"rebuild-store: {store}: Input/output error\n" in ran.err, ran.text())
@@ -796,7 +796,7 @@ def test_runs_of_one_part(place, choose):
     files = lay(store, choose)
     lost = store / "s.x0"
     lost.unlink()
-    calls = Calls(place)
+    calls = Calls(place, forks=True)
     part = next(part for part in ("1/2", "2/2") if has_lost(store, part))
     command = [PROGRAM, "repair", store, "--part", part]
     lock = store / f".rebuild-store-part-{part.replace('/', '-of-')}"
@@ -863,7 +863,7 @@ def test_names_like_ours(place, choose):
 
 def test_names_of_unfinished_files(place, choose):
     """The name of an unfinished file has its run's part, process and host, so that those of other runs know whose it is."""
-    store, calls, host = place / "unfinished", Calls(place), re.escape(os.uname().nodename)
+    store, calls, host = place / "unfinished", Calls(place, forks=True), re.escape(os.uname().nodename)
     lay(store, choose)
     for words, part in (([], ""), (["--part", "1/1"], "1-1-")):
         command = [PROGRAM, "repair", store, *words]
@@ -932,7 +932,7 @@ def test_leftovers_where_links_lead(place, choose):
 
 def test_linked_folder_that_cannot_be_listed(place, choose):
     """A folder that a link leads to and that can't be listed is said, with the status of a device, and what runs left there stays."""
-    calls, store, outside = Calls(place), place / "store", place / "outside"
+    calls, store, outside = Calls(place, forks=True), place / "store", place / "outside"
     files = lay(store, choose)
     outside.mkdir()
     (store / "s.x0").rename(outside / "x0")
@@ -958,7 +958,7 @@ def test_linked_folder_that_cannot_be_listed(place, choose):
 
 def test_kills_elsewhere(place, choose):
     """A run that is killed leaves nothing that stays in the way, also where it writes to another folder or to another disk by links."""
-    calls = Calls(place)
+    calls = Calls(place, forks=True)
     for kind in ("to", "links"):
         store, other = place / f"killed-{kind}", place / f"killed-{kind}-other"
         files = lay(store, choose)
@@ -1137,7 +1137,7 @@ def test_descriptions_on_disks_that_are_gone(place, choose):
 
 def test_disks_that_fail(place, choose):
     """A disk's folder that can't be listed is a disk whose fragments are lost: it is said once, and the others are repaired."""
-    calls = Calls(place)
+    calls = Calls(place, forks=True)
     store = place / "failing"
     files = lay_disks(store, choose)
     lost = ("disk1/a", "disk4/b")
@@ -1271,7 +1271,7 @@ def test_description_elsewhere_again(place, choose):
 
 def test_description_of_a_killed_part(place, choose):
     """What a killed run of a part leaves of a description is removed by the part's next run."""
-    store, calls = lay_file(place, choose), Calls(place)
+    store, calls = lay_file(place, choose), Calls(place, forks=True)
     whole = there(store)
     command = [PROGRAM, "repair", "--part", "1/1", store]
     (store / "a.file").unlink()
@@ -1285,7 +1285,7 @@ def test_description_of_a_killed_part(place, choose):
 
 def test_description_behind_a_link(place, choose):
     """If links are followed, a description is made again where its link leads, and a damaged one is replaced and kept there."""
-    store, outside, calls = lay_file(place, choose), place / "outside", Calls(place)
+    store, outside, calls = lay_file(place, choose), place / "outside", Calls(place, forks=True)
     outside.mkdir()
     text = (store / "a.file").read_bytes()
     (store / "a.file").unlink()
@@ -1311,7 +1311,7 @@ def test_description_behind_a_link(place, choose):
 
 def test_folder_that_is_not_synced(place, choose):
     """A folder whose names can't be written to its disk keeps those of no other folder from being written."""
-    store, calls = place / "synced", Calls(place)
+    store, calls = place / "synced", Calls(place, forks=True)
     lay_disks(store, choose, names=("a",))
     lost = [store / "disk1/a", store / "disk4/a"]
     command = [PROGRAM, "repair", "-j", "1", *DISKS, store]
@@ -1348,7 +1348,7 @@ def test_folder_above_a_disk(place, choose):
 
 def test_fragments_that_fail_while_they_are_read(place, choose):
     """A fragment that a disk fails to give is said as that, and not as one that differs from its digest."""
-    calls, store, tried = Calls(place), place / "failing", set()
+    calls, store, tried = Calls(place, forks=True), place / "failing", set()
     files = lay(store, choose)
     sums = "".join(f"{digest(data)}  {name}\n" for name, data in files.items())
     (store / "SHA256SUMS").write_text(sums)
@@ -1389,7 +1389,7 @@ def test_fragments_that_fail_while_they_are_read(place, choose):
 
 def test_read_that_fails_once(place, choose):
     """A fragment of which a disk fails to give one block, and gives the next, is one that can't be read, and doesn't differ."""
-    calls, store, tried = Calls(place), place / "failing-once", set()
+    calls, store, tried = Calls(place, forks=True), place / "failing-once", set()
     files = lay(store, choose, length=300_000)
     (store / "SHA256SUMS").write_text("".join(f"{digest(data)}  {name}\n" for name, data in files.items()))
     command = [PROGRAM, "scrub", "-j", "1", store]
@@ -1750,7 +1750,7 @@ def test_descriptions_of_before(place, choose):
     # Where it can't be read nothing goes on, since it would stay beside another file, or alone.
     (store / "note.file").write_bytes(line)
     source.write_bytes(choose.randbytes(2_003))
-    calls, again = Calls(place), place / "once-more"
+    calls, again = Calls(place, forks=True), place / "once-more"
     for words in (["encode", "--replace", *DISKS, again, source], ["remove", *DISKS, again, "note"]):
         shutil.copytree(store, again)
         for number, kind in enumerate(calls.run([PROGRAM, *words]).kinds, 1):
@@ -1933,7 +1933,7 @@ def test_stripe_that_changes_meanwhile(place, choose):
     store.mkdir()
     for name, data in before.items():
         (store / f"s.{name}").write_bytes(data)
-    calls = Calls(place)
+    calls = Calls(place, forks=True)
     code = ["--code", "6-2-2"]
     for command in (["repair", store, *code], ["repair", store, *code, "--reads", "all"], ["scrub", store],
                     ["repair", store, *code, "--reads", "few"]):
@@ -2048,7 +2048,7 @@ def test_fragment_that_comes_meanwhile(place, choose):
     files = lay(store, choose, length=1)
     lost = next(name for name in files if files[name] != b"m")
     (store / lost).unlink()
-    calls = Calls(place)
+    calls = Calls(place, forks=True)
     command = [PROGRAM, "repair", store, "--workers", "1"]
     link = calls.run(command).kinds.index("link") + 1
     (store / lost).unlink()
@@ -2062,7 +2062,7 @@ def test_names_that_others_give_meanwhile(place, choose):
     store, other = place / "given", place / "given-other"
     files = lay(store, choose)
     other.write_bytes(bytes(600))
-    calls = Calls(place)
+    calls = Calls(place, forks=True)
     command = [PROGRAM, "scrub", store, "--workers", "1"]
     opens = [number for number, kind in enumerate(calls.run(command).kinds, 1) if kind == "open"]
     number = next(number for number in opens if calls.run(command, number, errno.EIO).paths[0].endswith("s.x1"))
@@ -2095,7 +2095,7 @@ def test_names_that_others_give_meanwhile(place, choose):
 
 def test_stripe_rewritten_with_its_times(place, choose):
     """A stripe that is rewritten while it is read has changed also if each file gets the time back at which it was written."""
-    calls, store = Calls(place), place / "same-times"
+    calls, store = Calls(place, forks=True), place / "same-times"
     lay(store, choose)
     after = {f"s.{name}": data for name, data in stripe("6-2-2", 600, choose).items()}
     command = [PROGRAM, "scrub", store, "--workers", "1"]
@@ -2112,7 +2112,7 @@ def test_stripe_rewritten_with_its_times(place, choose):
 def test_source_that_changes_meanwhile(place, choose):
     """A file that is rewritten while it is encoded is refused, or encoded as it is then, at whichever of its openings that is; and so is
     one in whose place another of its length and its time comes, whenever it is looked at."""
-    calls, store, source, other = Calls(place), place / "rewriting", place / "rewritten-source", place / "another-source"
+    calls, store, source, other = Calls(place, forks=True), place / "rewriting", place / "rewritten-source", place / "another-source"
     command, numbers = [PROGRAM, "encode", store, source], {"open": [], "look": []}
     source.write_bytes(choose.randbytes(6_000))
     for number, kind in enumerate(calls.run(command).kinds, 1):
@@ -2148,7 +2148,7 @@ def test_source_that_changes_meanwhile(place, choose):
 
 def test_source_that_gets_its_time_back(place, choose):
     """A file that is rewritten while it is encoded, and gets its time back, is refused, or encoded as it is then."""
-    calls, store, source, refused = Calls(place), place / "back", place / "back-source", 0
+    calls, store, source, refused = Calls(place, forks=True), place / "back", place / "back-source", 0
     command = [PROGRAM, "encode", store, source]
     source.write_bytes(choose.randbytes(6_000))
     for number, kind in enumerate(calls.run(command).kinds, 1):
@@ -2171,7 +2171,7 @@ def test_source_that_gets_its_time_back(place, choose):
 
 def test_source_that_changes_while_it_is_digested(place, choose):
     """A file that was encoded before, and is rewritten while its digest is read, is refused as changed."""
-    calls, store, source, data = Calls(place), place / "digested", place / "digested-source", choose.randbytes(6_000)
+    calls, store, source, data = Calls(place, forks=True), place / "digested", place / "digested-source", choose.randbytes(6_000)
     command, tried = [PROGRAM, "encode", store, source], 0
     source.write_bytes(data)
     run("encode", store, source, status=0)
@@ -2188,7 +2188,7 @@ def test_source_that_changes_while_it_is_digested(place, choose):
 
 def test_source_that_gets_another_length(place, choose):
     """A file that gets another length before it is opened is encoded as it then is, or refused as changed."""
-    calls, store, source, refused = Calls(place), place / "longer", place / "longer-source", 0
+    calls, store, source, refused = Calls(place, forks=True), place / "longer", place / "longer-source", 0
     command = [PROGRAM, "encode", store, source]
     source.write_bytes(choose.randbytes(6_000))
     for number, kind in enumerate(calls.run(command).kinds, 1):
@@ -2208,7 +2208,7 @@ def test_source_that_gets_another_length(place, choose):
 
 def test_files_that_stay_of_a_source_that_changes(place, choose):
     """Where what was made of a file that changed while it was encoded can't be taken away, that is said, with the status of a device."""
-    calls, store, source, tried = Calls(place), place / "staying", place / "staying-source", 0
+    calls, store, source, tried = Calls(place, forks=True), place / "staying", place / "staying-source", 0
     command = [PROGRAM, "encode", store, source]
     source.write_bytes(choose.randbytes(1_200_000))
     kinds = calls.run(command).kinds
@@ -2424,6 +2424,20 @@ def test_other_parts(place, choose):
         hold(not (store / LEFTOVER).exists() and not lock.exists(), "what was left above the fragments stays")
 
 
+def test_locks_as_nfs_takes_them(place, choose):
+    """Where a file can be locked only if it is open to be written, as by NFS, the lock of another part is seen too."""
+    store, library = place / "nfs", place / "nfs-locks.so"
+    lay(store, choose)
+    refusals.build(library, "nfs-locks.c", "-shared", "-fPIC")
+    how = {"env": {**os.environ, "LD_PRELOAD": str(library)}}
+    held = os.open(store / ".rebuild-store-part-1-of-3", os.O_CREAT | os.O_RDWR)
+    fcntl.flock(held, fcntl.LOCK_EX)
+    said = run("repair", store, "--part", "1/2", status=1, **how)
+    hold("another run works in this store" in said, f"parts of two divisions were worked on: {said}")
+    os.close(held)
+    run("repair", store, "--part", "1/2", status=0, **how)
+
+
 def test_other_parts_of_another_user(place, choose):
     """The lock of a part keeps out other divisions of a user too who may read it and not write into it."""
     how = as_user(place)
@@ -2582,7 +2596,7 @@ def test_file_that_changes_while_it_is_read(place, choose):
     data = choose.randbytes(400_000)
     source.write_bytes(data)
     run("encode", store, source, status=0)
-    calls = Calls(place)
+    calls = Calls(place, forks=True)
     command = [PROGRAM, "read", store, source.name]
     ran = calls.run(command)
     first = next(number for number, kind in enumerate(ran.kinds, 1) if kind == "output")
@@ -2602,7 +2616,7 @@ def test_what_replaces_a_private_file(place, choose):
     out = folder / "out"
     out.write_bytes(b"older")
     out.chmod(0o600)
-    calls, command = Calls(place), [PROGRAM, "read", store, source.name, "-o", out]
+    calls, command = Calls(place, forks=True), [PROGRAM, "read", store, source.name, "-o", out]
     kinds = calls.run(command).kinds
     for kind in ("write", "sync", "rename"):
         with waiting(calls, place, command, kinds.index(kind) + 1) as go_on:
@@ -2615,7 +2629,7 @@ def test_what_replaces_a_private_file(place, choose):
 
 def slow_reads(place, milliseconds):
     """The variables with which each read of a run takes so much longer, as from a slow disk, so that work on small files shows lines."""
-    calls, record = Calls(place), place / "record"
+    calls, record = Calls(place, forks=True), place / "record"
     record.write_bytes(bytes(RECORD_SIZE))
     return {"LD_PRELOAD": str(calls.file), "FAIL_RECORD": str(record), "FAIL_NUMBER": str(milliseconds), "FAIL_HOW": "slow"}
 

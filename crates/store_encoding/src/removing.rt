@@ -125,15 +125,26 @@ impl<'n> Listed<'n> {
         Ok(())
     }
 
+    /// Whether a description of the stripe can be read.
+    fn is_described(&self, rt: &HostRuntime, target: &Target<'_>) -> bool {
+        for name in &self.files.descriptions {
+            let said = is_description(rt, target, name.as_str());
+            if matches!(&said, Ok(true)) {
+                return true;
+            }
+        }
+        false
+    }
+
     /// Whether something has the name of one of the stripe's descriptions, or may have it, since that can't be looked at.
     fn may_be_described(&self, rt: &HostRuntime, target: &Target<'_>) -> bool {
         let has_some = has_any(rt, target, self.files.descriptions.as_slice());
         !matches!(&has_some, Ok(false))
     }
 
-    /// Adds the digests again if something may still describe the stripe.
+    /// Adds the digests again if something still describes the stripe. By those of one that nothing describes a repair would make it again.
     fn add_described(&self, rt: &HostRuntime, target: &mut Target<'_>) -> Result<(), AllocError> {
-        if self.may_be_described(rt, target) {
+        if self.is_described(rt, target) {
             self.add_again(rt.alloc(), target)?;
         }
         Ok(())
@@ -234,7 +245,7 @@ fn write_without(
     }
 }
 
-/// Writes the digests with those of the stripes that may still be described.
+/// Writes the digests with those of the stripes that are still described.
 fn write_again(
     rt: &HostRuntime,
     files: &mut SystemFolder<'_>,

@@ -17,7 +17,9 @@ pub fn fitting_description(
     for described in said {
         let sought = Sought::new(file, *described);
         let fragments = open_fragments(rt, &sought, Missing::UnreadSaid)?;
-        if set_that_fits(rt, &sought, &fragments)?.is_some() {
+        // A file without bytes has fragments without any: else it would fit whatever is there.
+        let has_some = fragments.set.len() > 0;
+        if has_some && set_that_fits(rt, &sought, &fragments)?.is_some() {
             return Ok(Some(*described));
         }
         if unread.is_none() {

@@ -17,8 +17,18 @@ pub(crate) fn discard_staged(
     staged: &str,
 ) -> Result<(), FileFault> {
     let files = StripeFiles::of(rt.alloc(), target, staged)?;
-    take_each(rt, target, files.descriptions.as_slice())?;
-    take_each(rt, target, files.fragments.as_slice())
+    let described = take_each(rt, target, files.descriptions.as_slice());
+    let taken = if described.is_ok() {
+        take_each(rt, target, files.fragments.as_slice())
+    } else {
+        described
+    };
+    let there = has_any(rt, target, files.descriptions.as_slice());
+    if matches!(&there, Ok(false)) {
+        // Nothing describes the fragments that stay, so none of them is expected.
+        forget_digests(target, files.fragments.as_slice());
+    }
+    taken
 }
 
 /// Takes the files of some names away, each that can be taken, and gives why the first of the others couldn't be.
