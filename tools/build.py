@@ -14,8 +14,9 @@
 What is built is in the crate's out/LEVEL, with the record of its build; what was built last for a level of this processor is in its out/
 too. So a level that was built before isn't built again.
 
-Each crate is proved over libraries that hold the statements of those below it, and not their proofs: those are many times as long to load,
-of a whole build a quarter. What was checked isn't kept beside such a library, so that a crate is proved whole once it has changed.
+Each crate is proved over libraries that hold the statements of those below it, and not their proofs, which have several times as many bytes
+to load (lrc_field 104 MB in place of 18). What was checked isn't kept beside such a library, so that a crate is proved whole once it has
+changed.
 
 Crates are proved beside each other, each as soon as those that it uses are there. The two with the longest ways to the end, by the time
 that their lines take, have half of the processors each, and the others one each at a lower priority: with more jobs a proof takes more of
