@@ -3,9 +3,9 @@
 
     timed.py anew                                   forgets what was timed before
     timed.py script COMMAND..                       runs a script
-    timed.py proofs [--beside CRATE SCRIPT].. [--then COMMAND] rt ci
-                                                    runs the proofs, scripts beside them, each as soon as they have proved its crate, and
-                                                    after them this command, beside what of the scripts hasn't ended by then
+    timed.py proofs [--beside CRATE[,CRATE..] COMMAND].. [--then COMMAND] rt ci
+                                                    runs the proofs, commands beside them, each as soon as they have proved its crates,
+                                                    and after them the last, beside what of these hasn't ended by then
     timed.py table                                  prints what was timed since `anew`
 
 The status is that of what was run. `rt ci` says when a crate is proved, but not when its proof began nor what it took. So its processes are
@@ -32,8 +32,9 @@ import build  # noqa: E402
 ROOT = pathlib.Path(__file__).resolve().parent.parent
 # What was timed, one thing on a line.
 TIMES = ROOT / "out" / "gate-times"
-# By how much the priority of the scripts beside them is lower than that of proofs, so that they take what these leave.
-NICER = "15"
+# By how much the priority of a script beside the proofs is lower than theirs, so that it takes what these leave. What waits for several
+# crates begins where few proofs are left, and has the same as they: it would else wait for its own time limits.
+NICER, NO_NICER = "15", "0"
 # By how much that of the proofs of tests is, for which no crate waits, and that of crates that aren't on the longest chain: `rt ci` takes
 # first what has the most lines from there on, and gives all the same.
 TESTS_NICER, OTHERS_NICER = 7, 3
@@ -44,8 +45,9 @@ TICKS = os.sysconf("SC_CLK_TCK")
 MARKS = re.compile(r"rt: .* (?:proved|NOT PROVED)$")
 # Those that say that a crate was proved by an earlier run.
 KNOWN = re.compile(r"rt: (\w+) is kept: ")
-# Those from which on what was proved of a crate is there for others.
-PROVED = r"rt: {} (?:proved$|is kept: )"
+# Those from which on what was proved of a crate, or of its tests, is there for others; and what follows the crate's name for the latter.
+PROVED = re.compile(r"rt: (\w+)(: its tests are)? (?:proved$|is kept: )")
+TESTS = ":tests"
 PARTS = ("proof", "tests")
 HEAD = """
 What the gate took. First rt ci, by crates, in seconds of its processes' processor time, which is looked at once a second:
@@ -70,9 +72,11 @@ def kept(key):
 
 
 def end(command, process, start):
-    """Waits for the end of what was started and keeps how long it took; gives its status, as a shell has it for what a signal ended."""
+    """Waits for the end of what was started and keeps how long it took, but of a make, whose scripts are timed; gives its status, as a
+    shell has it for what a signal ended."""
     status = process.wait()
-    keep(script=" ".join(command), seconds=time.monotonic() - start)
+    if command[0] != "make":
+        keep(script=" ".join(command), seconds=time.monotonic() - start)
     return status if status >= 0 else 128 - status
 
 
@@ -159,9 +163,9 @@ class Seen:
 
 
 def proofs(beside, then, command):
-    """Runs `rt ci`, says after some of its lines how much time has passed, and starts each of these scripts beside it, when its crate is
-    proved, and another command after it; gives the status of the first that failed."""
-    start, scripts, waits, left = time.monotonic(), [], [], list(beside)
+    """Runs `rt ci`, says after some of its lines how much time has passed, and starts each of these commands beside it, when its crates are
+    proved, and another after it; gives the status of the first that failed."""
+    start, scripts, waits, left, there = time.monotonic(), [], [], list(beside), set()
     ran = subprocess.Popen(command, stdout=subprocess.PIPE, text=True, errors="replace")
     seen, ended = Seen(ran.pid), threading.Event()
 
@@ -172,10 +176,11 @@ def proofs(beside, then, command):
     with concurrent.futures.ThreadPoolExecutor() as pool:
 
         def start_beside(those, **proved):
-            for crate, script in those:
-                left.remove((crate, script))
-                scripts.append(subprocess.Popen(["nice", "-n", NICER, script], env={**os.environ, **proved}))
-                waits.append(pool.submit(end, [script], scripts[-1], time.monotonic()))
+            for crates, words in those:
+                left.remove((crates, words))
+                nicer = NICER if len(crates) == 1 else NO_NICER
+                scripts.append(subprocess.Popen(["nice", "-n", nicer, *words], env={**os.environ, **proved}))
+                waits.append(pool.submit(end, words, scripts[-1], time.monotonic()))
 
         try:
             pool.submit(watch)
@@ -186,8 +191,10 @@ def proofs(beside, then, command):
                     print(f"timed: {passed // 60} min {passed % 60} s", flush=True)
                 if found := KNOWN.match(line):
                     keep(known=found[1])
-                # What is proved until then is in this folder as long as `rt ci` runs.
-                start_beside([it for it in left if re.match(PROVED.format(it[0]), line)], PROVED_IN=str(ROOT))
+                if found := PROVED.match(line):
+                    there.add(found[1] + (TESTS if found[2] else ""))
+                    # What is proved until then is in this folder as long as `rt ci` runs.
+                    start_beside([it for it in left if there.issuperset(it[0])], PROVED_IN=str(ROOT))
             statuses = [end(command, ran, start)]
             if statuses == [0]:
                 start_beside(list(left))
@@ -243,7 +250,7 @@ def main(words):
     elif words[:1] == ["proofs"] and words[1:]:
         beside, then, words = [], [], words[1:]
         while words[:1] == ["--beside"] and words[3:]:
-            beside, words = [*beside, (words[1], words[2])], words[3:]
+            beside, words = [*beside, (tuple(words[1].split(",")), shlex.split(words[2]))], words[3:]
         if words[:1] == ["--then"] and words[2:]:
             then, words = shlex.split(words[1]), words[2:]
         sys.exit(proofs(beside, then, words))
