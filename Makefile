@@ -202,7 +202,7 @@ proofs:
 	RT_JOBS=$(shell expr $$(nproc) + 2) tools/timed.py proofs --beside list_members ceph/tests/rebuild-ceph.py \
 	  --beside list_members tools/try.sh --beside lrc_plan gate/library.sh --beside farm_files gate/refused.py \
 	  --beside rebuild gate/companion.py \
-	  --beside rebuild,lrc_tests:tests,farm_lists_tests:tests,farm_tests:tests,store_file_commands \
+	  --beside rebuild,lrc_tests:tests,farm_lists_tests:tests,farm_tests:tests,store_tests:tests,store_file_commands \
 	  'make --no-print-directory --output-sync=target -j$(OTHERS) farm' \
 	  --then 'make --no-print-directory --output-sync=target -j$(shell nproc) after' rt ci
 

@@ -615,7 +615,7 @@ def main():
     # A test that fails aborts.
     resource.setrlimit(resource.RLIMIT_CORE, (0, 0))
     with tempfile.TemporaryDirectory() as folder, ThreadPoolExecutor(os.cpu_count()) as pool:
-        library = Library(pathlib.Path(folder))
+        library = Library(pathlib.Path(folder), forks=True)
         try:
             test_the_library(library)
             count_threads(library)
