@@ -168,15 +168,16 @@ try-ceph-releases: store
 	@$(MAKE) --no-print-directory library CPU=x86-64-v2
 	ceph/releases.sh
 
-# What the gate runs after the proofs, over the programs and tests that they leave in each crate's out/. No two of these share a file
-# that one of them writes, so several run at once, first those that take long.
-AFTER := ceph/test.sh $(addprefix gate/,store-files.py store-strangers.py store-faults.py file-faults.py encode-store.py store-damage.py \
+# What the gate runs over the programs and tests that the proofs leave in each crate's out/, as soon as these are there: FARM needs the
+# program `rebuild` and tests, STORE both programs and a test. No two of these share a file that one of them writes, so several run at once,
+# first those that take long.
+STORE := ceph/test.sh $(addprefix gate/,store-files.py store-strangers.py store-faults.py file-faults.py encode-store.py store-damage.py \
   repair-store.py store-watching.py store-sharing.py packages.sh store-life.py store-options.py store-arguments.py store-results.py \
   store-names.py store-records.py store-disks.py no-compile.py examples.py manual.sh completions.sh install.sh version.sh)
-
-# What it runs as soon as all but the proof of rebuild-store has ended, which takes one processor: these need `rebuild` and tests alone.
 FARM := $(addprefix gate/,refusals.py reference-lines.sh line-mode.py answers.py codes.py arguments.py lists.py farm-folders.py \
   farm-calls.py farm-batches.py farm-shelves.py ends.sh numbers.py tables.py growth.py memory.py) tools/demo.sh
+FARM_NEEDS := rebuild,lrc_tests:tests,farm_lists_tests:tests,farm_tests:tests,store_tests:tests
+STORE_NEEDS := rebuild,rebuild_store,store_tests:tests
 
 # What it runs before them, of sources and pages; none of these writes a file of the repository.
 BEFORE := $(addprefix gate/,formatted.sh wrong-bodies.sh architecture.py sweep.py documented.py pages.py sentences.py messages.py \
@@ -195,23 +196,19 @@ test:
 # that is proved, so they take what the first proofs leave of the processors, of which few can begin; list_members is proved in half a
 # minute. gate/library.sh builds in a copy of its own, over crates of which lrc_plan is proved last, gate/refused.py tries edits over those
 # below farm_files and some of them, and gate/companion.py needs the program `rebuild` alone, so these run beside the proofs from then on,
-# and beside the scripts that come after them.
-OTHERS := $(shell expr $$(nproc) - 1 \| 1)
+# as the scripts above do, which run where few proofs are left.
+SCRIPTS := make --no-print-directory --output-sync=target -j$(shell nproc)
 proofs:
 	tools/build.py settle
 	RT_JOBS=$(shell expr $$(nproc) + 2) tools/timed.py proofs --beside list_members ceph/tests/rebuild-ceph.py \
 	  --beside list_members tools/try.sh --beside lrc_plan gate/library.sh --beside farm_files gate/refused.py \
-	  --beside rebuild gate/companion.py \
-	  --beside rebuild,lrc_tests:tests,farm_lists_tests:tests,farm_tests:tests,store_tests:tests,store_file_commands \
-	  'make --no-print-directory --output-sync=target -j$(OTHERS) farm' \
-	  --then 'make --no-print-directory --output-sync=target -j$(shell nproc) after' rt ci
-
-after: $(AFTER)
+	  --beside rebuild gate/companion.py --beside $(FARM_NEEDS) '$(SCRIPTS) farm' --beside $(STORE_NEEDS) '$(SCRIPTS) store-scripts' rt ci
 
 farm: $(FARM)
+store-scripts: $(STORE)
 
-.PHONY: proofs after farm $(BEFORE) $(AFTER) $(FARM)
-$(BEFORE) $(AFTER) $(FARM):
+.PHONY: proofs farm store-scripts $(BEFORE) $(FARM) $(STORE)
+$(BEFORE) $(FARM) $(STORE):
 	tools/timed.py script $@
 
 # CRATES='NAME ..' tries those of these crates alone. What was refused and hasn't changed isn't tried again.

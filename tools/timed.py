@@ -3,15 +3,14 @@
 
     timed.py anew                                   forgets what was timed before
     timed.py script COMMAND..                       runs a script
-    timed.py proofs [--beside CRATE[,CRATE..] COMMAND].. [--then COMMAND] rt ci
-                                                    runs the proofs, commands beside them, each as soon as they have proved its crates,
-                                                    and after them the last, beside what of these hasn't ended by then
+    timed.py proofs [--beside CRATE[,CRATE..] COMMAND].. rt ci
+                                                    runs the proofs, and commands beside them, each as soon as they have proved its crates
     timed.py table                                  prints what was timed since `anew`
 
 The status is that of what was run. `rt ci` says when a crate is proved, but not when its proof began nor what it took. So its processes are
 looked at once a second: how many seconds of a processor each has had, for which crate and which part of its proof. Left out are processes
-of another form, and of each what it had after the last look. Then those get a lower priority on which the longest chain doesn't wait: those
-of tests, and of crates that aren't below the program with most lines below it."""
+of another form, and of each what it had after the last look. Then those get a lower priority for which the longest chain of crates doesn't
+wait: the lower the more time there is for them, and the lowest those of tests."""
 
 import collections
 import concurrent.futures
@@ -33,11 +32,12 @@ ROOT = pathlib.Path(__file__).resolve().parent.parent
 # What was timed, one thing on a line.
 TIMES = ROOT / "out" / "gate-times"
 # By how much the priority of a script beside the proofs is lower than theirs, so that it takes what these leave. What waits for several
-# crates begins where few proofs are left, and has the same as they: it would else wait for its own time limits.
-NICER, NO_NICER = "15", "0"
-# By how much that of the proofs of tests is, for which no crate waits, and that of crates that aren't on the longest chain: `rt ci` takes
-# first what has the most lines from there on, and gives all the same.
-TESTS_NICER, OTHERS_NICER = 7, 3
+# crates begins where few proofs are left, and has more, so that it ends beside them and within its own time limits.
+NICER, LESS_NICER = "15", "5"
+# By how much that of a proof is: more by one for each so many seconds, about, by which the chains through it are shorter than the longest,
+# up to this; and of the proofs of tests, for which no crate waits. `rt ci` takes first what has the most lines from there on, and gives all
+# the same.
+FOR_ONE, OTHERS_NICER, TESTS_NICER = 200, 5, 7
 # Seconds between two looks at the processes.
 BETWEEN = 1
 TICKS = os.sysconf("SC_CLK_TCK")
@@ -99,17 +99,23 @@ def work_of(words, folder):
     return name, "tests" if "--test" in words else "proof"
 
 
-def first_crates():
-    """The names of the program with most lines below it and of the crates below it."""
-    ways = [[it, *it.all_below()] for it in build.read_crates().values() if it.is_program]
-    return {it.name for it in max(ways, key=lambda way: sum(it.proof_seconds() for it in way))}
+def priorities():
+    """By how much the priority of each crate's proof is lower than that of the longest chain's."""
+    crates = list(build.read_crates().values())
+    above = {it: [other for other in crates if it in other.below] for it in crates}
+
+    def way(crate, to):
+        return crate.proof_seconds() + max((way(it, to) for it in to(crate)), default=0)
+
+    through = {it: way(it, lambda one: one.below) + way(it, above.get) - it.proof_seconds() for it in crates}
+    return {it.name: min(OTHERS_NICER, int((max(through.values()) - through[it]) / FOR_ONE)) for it in crates}
 
 
 class Seen:
     """What the processes below one have had of the processors."""
 
     def __init__(self, top):
-        self.top, self.start, self.first_crates = top, time.monotonic(), first_crates()
+        self.top, self.start, self.priorities = top, time.monotonic(), priorities()
         # By processes, each with its start, since numbers come again: whose work it is, and its seconds until now.
         self.work, self.seconds = {}, {}
         # By works: when it was first and last seen.
@@ -147,8 +153,8 @@ class Seen:
             try:
                 words = pathlib.Path(f"/proc/{number}/cmdline").read_text(errors="replace").split("\0")
                 found = work_of(words, pathlib.Path(os.readlink(f"/proc/{number}/cwd")))
-                if found and (found[1] == "tests" or found[0] not in self.first_crates):
-                    os.setpriority(os.PRIO_PROCESS, number, TESTS_NICER if found[1] == "tests" else OTHERS_NICER)
+                if found:
+                    os.setpriority(os.PRIO_PROCESS, number, TESTS_NICER if found[1] == "tests" else self.priorities[found[0]])
             except OSError:
                 return None
             if found is None:
@@ -162,9 +168,9 @@ class Seen:
             keep(crate=work[0], part=work[1], seconds=had, first=first, last=self.last[work])
 
 
-def proofs(beside, then, command):
+def proofs(beside, command):
     """Runs `rt ci`, says after some of its lines how much time has passed, and starts each of these commands beside it, when its crates are
-    proved, and another after it; gives the status of the first that failed."""
+    proved; gives the status of the first that failed."""
     start, scripts, waits, left, there = time.monotonic(), [], [], list(beside), set()
     ran = subprocess.Popen(command, stdout=subprocess.PIPE, text=True, errors="replace")
     seen, ended = Seen(ran.pid), threading.Event()
@@ -178,7 +184,7 @@ def proofs(beside, then, command):
         def start_beside(those, **proved):
             for crates, words in those:
                 left.remove((crates, words))
-                nicer = NICER if len(crates) == 1 else NO_NICER
+                nicer = NICER if len(crates) == 1 else LESS_NICER
                 scripts.append(subprocess.Popen(["nice", "-n", nicer, *words], env={**os.environ, **proved}))
                 waits.append(pool.submit(end, words, scripts[-1], time.monotonic()))
 
@@ -198,8 +204,6 @@ def proofs(beside, then, command):
             statuses = [end(command, ran, start)]
             if statuses == [0]:
                 start_beside(list(left))
-                scripts += [subprocess.Popen(then)] if then else []
-                statuses += [scripts[-1].wait()] if then else []
             statuses += [it.result() for it in waits]
         finally:
             ended.set()
@@ -248,12 +252,10 @@ def main(words):
     elif words[:1] == ["script"] and words[1:]:
         sys.exit(script(words[1:]))
     elif words[:1] == ["proofs"] and words[1:]:
-        beside, then, words = [], [], words[1:]
+        beside, words = [], words[1:]
         while words[:1] == ["--beside"] and words[3:]:
             beside, words = [*beside, (tuple(words[1].split(",")), shlex.split(words[2]))], words[3:]
-        if words[:1] == ["--then"] and words[2:]:
-            then, words = shlex.split(words[1]), words[2:]
-        sys.exit(proofs(beside, then, words))
+        sys.exit(proofs(beside, words))
     else:
         sys.exit(__doc__)
 
