@@ -1,8 +1,10 @@
 -- Of which code stripes are by what is at their places, and which code the votes of many say.
-use Rattle.std.specs.Prelude.{◌<◌, ◌≤◌, ◌/◌, ◌⊎◌, ◌&&◌, ◌==◌, ℕ, Bool, List, false, true}
-use Rattle.std.specs.Prelude.{count_by, if◌then◌else◌, nat_le, nat_lt, slice_index_or}
+use Rattle.std.specs.Prelude.{◌+◌, ◌-◌, ◌^◌, ◌<◌, ◌≤◌, ◌/◌, ◌⊎◌, ◌&&◌, ◌==◌, ℕ, Bool, List, false, true}
+use Rattle.std.specs.Prelude.{count_by, if◌then◌else◌, min, nat_le, nat_lt, slice_index_or}
 use Rattle.lrc_code.specs.declared.codes.Code.{Code as CodeName}
 use Rattle.lrc_code.specs.declared.codes.Code.TheVariants.{Narrow, Wide}
+use Rattle.lrc_code.specs.declared.places.Place.{Place}
+use Rattle.lrc_code.specs.Code.{has_place}
 use Rattle.lrc_code.specs.Codes.{tables_of}
 use Rattle.lrc_code.specs.Places.{index_of}
 use Rattle.stores.specs.declared.stripes.Found.{Found as FoundName}
@@ -31,6 +33,15 @@ other_code Wide = Narrow
 abbrev pub votes_of : Votes → CodeName → ℕ
 votes_of votes Narrow = votes.narrow
 votes_of votes Wide = votes.wide
+
+-- with one more vote for a code, of as many as can be counted
+abbrev pub voted : CodeName → Votes → Votes
+voted Narrow votes = record votes { narrow = min (votes.narrow + 1) (2 ^ 64 - 1) }
+voted Wide votes = record votes { wide = min (votes.wide + 1) (2 ^ 64 - 1) }
+
+-- the code for which a fragment at a place is, that sums name
+abbrev pub code_of_place : Place → CodeName
+code_of_place place = if has_place (tables_of Narrow) place then Narrow else Wide
 
 -- The places of 6-2-2 are places of 12-2-2 too.
 -- the code that files at places say: 12-2-2 if one is at a place that 6-2-2 hasn't, 6-2-2 if all ten of it have one, and else this code

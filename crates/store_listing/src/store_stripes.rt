@@ -1,11 +1,23 @@
 //! The stripes of a store: which names are those of one, and what is of none.
-use crate::votes::are_stripe;
+ghost use Rattle.std.specs.Prelude.{◌↔◌, ◌≡◌, ◌++◌, IfOk, IsTrue, OnOk, map, string_bytes, true};
+ghost use Rattle.std.specs.List.{list_all};
+ghost use Rattle.store_listing.specs.Names.{at_places, named};
+ghost use Rattle.store_listing.specs.Stripes.{AreDescriptionsOf, IsDescriptionOf, IsOfDescribed, IsOwn, Settles, alone_places, at_place};
+ghost use Rattle.store_listing.specs.Stripes.{is_alone, is_short, is_stripe};
+ghost use Rattle.store_listing.specs.Votes.{is_there};
+
+use crate::votes::{are_stripe, is_found};
 use lrc_code::{Code, Place};
 use std::alloc::{AllocError, Global};
 use std::collections::{BTreeMap, BTreeSet};
 use store_names::{Pattern, described_stripe, is_description_name, last_of};
 use store_records::MOST_BYTES;
-use stores::{Found, StripeFiles};
+use stores::{Found, StripeFiles, nth_place};
+
+/// What is under the names of a stripe's fragments, if nothing is.
+pub(crate) const NO_FILES: StripeFiles = StripeFiles {
+    found: [Found::Absent; 16],
+};
 
 /// A file that is named as a fragment, and is of no stripe: it has no other fragment beside it, or the code hasn't its place.
 #[derive(Drop)]
@@ -43,34 +55,55 @@ impl StoreStripes {
         code: Code,
         name: &str,
         files: &StripeFiles,
-    ) -> Result<bool, AllocError> {
-        let is_short = |found: &Found| {
-            match *found {
-                Found::File { length } => length <= MOST_BYTES,
-                _ => true,
-            }
-        };
-        if !files.found.iter().all(is_short) {
+    ) -> Result<bool, AllocError>
+        ensures { IfOk result (λ are. IsTrue are
+            → AreDescriptionsOf self.now.described MOST_BYTES pattern.now code name.now files.now.found) }
+    {
+        if !are_short(files) {
             return Ok(false);
         }
-        for place in &Place::ALL {
-            if files.at(*place) != Found::Absent {
-                let Some(file) = pattern.name_of(alloc, code, name, *place)? else {
-                    return Ok(false);
-                };
-                if !is_description_name(alloc, pattern, code, file.as_str())?
-                    || !self.is_described_by(file.as_str())
-                {
-                    return Ok(false);
-                }
+        for index in 0..16 {
+            let place = nth_place(index);
+            if !self.is_description(alloc, pattern, code, name, files, place)? {
+                return Ok(false);
             }
         }
         Ok(true)
     }
 
+    /// Whether there is nothing at a place, or the fragment's name is that of a description of a stripe which is described.
+    fn is_description(
+        &self,
+        alloc: Global,
+        pattern: &Pattern<'_>,
+        code: Code,
+        name: &str,
+        files: &StripeFiles,
+        place: Place,
+    ) -> Result<bool, AllocError>
+        ensures { IfOk result (λ is. IsTrue is → is_there (at_place files.now.found place) ≡ true
+            → IsDescriptionOf self.now.described pattern.now code name.now place) }
+    {
+        if !is_found(files, place) {
+            return Ok(true);
+        }
+        let Some(file) = pattern.name_of(alloc, code, name, place)? else {
+            return Ok(false);
+        };
+        if !is_description_name(alloc, pattern, code, file.as_str())? {
+            return Ok(false);
+        }
+        Ok(self.is_described_by(file.as_str()))
+    }
+
     /// Whether a name in the store is that of a description, by its last part, of a stripe which is described.
-    fn is_described_by(&self, name: &str) -> bool {
-        described_stripe(last_of(name)).is_some_and(|stripe| self.described.contains(stripe))
+    fn is_described_by(&self, name: &str) -> bool
+        ensures { IsTrue result ↔ IsOfDescribed self.now.described name.now }
+    {
+        match described_stripe(last_of(name)) {
+            Some(stripe) => self.described.contains(stripe),
+            None => false,
+        }
     }
 
     /// Takes the files of each name for those of a stripe, for its descriptions, or each for one that is alone.
@@ -95,7 +128,7 @@ impl StoreStripes {
     pub(crate) fn add_expected(&mut self, expected: BTreeSet<String>) -> Result<(), AllocError> {
         for name in expected {
             if !self.files.contains_key(name.as_str()) {
-                self.files.insert(name, StripeFiles::new())?;
+                self.files.insert(name, NO_FILES)?;
             }
         }
         Ok(())
@@ -120,8 +153,7 @@ impl StoreStripes {
         }
     }
 
-    /// Takes the files of a name for those of a stripe, or each for one that is alone. A stripe has none at a place of another code, whose
-    /// length would be taken for one of its own.
+    /// Takes the files of a name for those of a stripe, or each for one that is alone.
     fn settle(
         &mut self,
         alloc: Global,
@@ -129,21 +161,88 @@ impl StoreStripes {
         name: String,
         found: StripeFiles,
         is_expected: bool,
-    ) -> Result<(), AllocError> {
-        let is_stripe = is_expected || are_stripe(&found, code);
-        let mut own = StripeFiles::new();
-        for place in &Place::ALL {
-            let place = *place;
-            if is_stripe && code.has(place) {
-                own.found[place.index()] = found.at(place);
-            } else if found.at(place) != Found::Absent {
-                let stripe = String::from_str(alloc, name.as_str())?;
+    ) -> Result<(), AllocError>
+        ensures files { OnOk result (Settles (is_stripe is_expected code found.found) code (string_bytes name) found.found
+            self.old.files self.new.files) }
+        ensures alone { OnOk result (map named self.new.alone.items ≡ map named self.old.alone.items
+            ++ at_places (string_bytes name) (alone_places (is_stripe is_expected code found.found) code found.found)) }
+        ensures described { self.new.described ≡ self.old.described }
+    {
+        let is_stripe = is_stripe(&found, code, is_expected);
+        self.leave_alone(alloc, code, name.as_str(), &found, is_stripe)?;
+        let own = own_of(&found, code);
+        if !is_stripe {
+            return Ok(());
+        }
+        self.files.insert(name, own)?;
+        Ok(())
+    }
+
+    /// Takes each of the files of a name for one that is alone, but those that are a stripe's own.
+    fn leave_alone(
+        &mut self,
+        alloc: Global,
+        code: Code,
+        name: &str,
+        files: &StripeFiles,
+        is_stripe: bool,
+    ) -> Result<(), AllocError>
+        ensures alone { OnOk result (map named self.new.alone.items ≡ map named self.old.alone.items
+            ++ at_places name.now (alone_places is_stripe code files.now.found)) }
+        ensures files { self.new.files ≡ self.old.files }
+        ensures described { self.new.described ≡ self.old.described }
+    {
+        for index in 0..16 {
+            let place = nth_place(index);
+            if is_alone(files, code, is_stripe, place) {
+                let stripe = String::from_str(alloc, name)?;
                 self.alone.push(Alone { stripe, place })?;
             }
         }
-        if is_stripe {
-            self.files.insert(name, own)?;
-        }
         Ok(())
     }
+}
+
+/// Whether none of some files is longer than a description.
+fn are_short(files: &StripeFiles) -> bool
+    ensures { result ≡ list_all (is_short MOST_BYTES) files.now.found }
+{
+    files.found.iter().all(|found| is_short(*found))
+}
+
+/// Whether what was found is no file that is longer than a description.
+fn is_short(found: Found) -> bool
+    ensures { result ≡ is_short MOST_BYTES found }
+{
+    match found {
+        Found::File { length } => length <= MOST_BYTES,
+        _ => true,
+    }
+}
+
+/// Whether files make a stripe of a code, as those of one that is expected do, whatever is there.
+fn is_stripe(files: &StripeFiles, code: Code, is_expected: bool) -> bool
+    ensures { result ≡ is_stripe is_expected code files.now.found }
+{
+    is_expected || are_stripe(files, code)
+}
+
+/// Whether there is something at a place that is none of a stripe of a code.
+fn is_alone(files: &StripeFiles, code: Code, is_stripe: bool, place: Place) -> bool
+    ensures { result ≡ is_alone is_stripe code files.now.found place }
+{
+    is_found(files, place) && !(is_stripe && code.has(place))
+}
+
+/// What of files is at a code's places. A stripe has none at a place of another code, whose length would be taken for one of its own.
+fn own_of(files: &StripeFiles, code: Code) -> StripeFiles
+    ensures { IsOwn code files.now.found result.found }
+{
+    let mut own = *files;
+    for index in 0..16 {
+        if !code.has(nth_place(index)) {
+            own.found[index] = Found::Absent;
+        }
+    }
+    own
 }

@@ -1,12 +1,14 @@
 //! Which stripes a store has, by the names of its files and by what else says that they should be there.
-ghost use Rattle.std.specs.Prelude.{◌↔◌, ◌≡◌, ◌≢◌, ◌+◌, ◌<◌, ◌⊎◌};
+ghost use Rattle.std.specs.Prelude.{◌↔◌, ◌≡◌, ◌≢◌, ◌+◌, ◌++◌, ◌<◌, ◌⊎◌, ◌∷◌, [], OnOk, if◌then◌else◌, map};
 ghost use Rattle.std.specs.BTreeMap.{values};
+ghost use Rattle.std.specs.BTreeSet.{contains_text};
 ghost use Rattle.std.specs.Bool.{IsTrue};
 ghost use Rattle.lrc_code.specs.declared.codes.Code.TheVariants.{Narrow, Wide};
 ghost use Rattle.store_listing.specs.declared.votes.Others.TheVariants as others;
-ghost use Rattle.store_listing.specs.Votes.{SayWide, other_code, placed_votes, votes_of};
+ghost use Rattle.store_listing.specs.Names.{Begins, Gains, Notes, is_wanted, named, one_more};
+ghost use Rattle.store_listing.specs.Votes.{SayWide, code_of_place, other_code, placed_votes, voted, votes_of};
 
-use crate::store_stripes::{Alone, StoreStripes};
+use crate::store_stripes::{Alone, NO_FILES, StoreStripes};
 use crate::votes::{Others, Votes, are_stripe, others_of, placed_code, said_by};
 use lrc_code::{Code, Place};
 use std::alloc::{AllocError, Global};
@@ -72,7 +74,9 @@ impl StripeNames {
     }
 
     /// Notes that a file is named as a fragment.
-    pub fn note_name(&mut self) {
+    pub fn note_name(&mut self)
+        ensures { self.new ≡ record self.old { named = one_more self.old.named } }
+    {
         self.named = self.named.saturating_add(1);
     }
 
@@ -83,15 +87,15 @@ impl StripeNames {
         stripe: &str,
         place: Place,
         found: Found,
-    ) -> Result<(), AllocError> {
+    ) -> Result<(), AllocError>
+        ensures noted { OnOk result (Notes (is_wanted self.old.part stripe.now) stripe.now place found self.old.files self.new.files) }
+        ensures others { self.new ≡ record self.old { named = one_more self.old.named; files = self.new.files } }
+    {
         self.note_name();
         if !self.is_wanted(stripe) {
             return Ok(());
         }
-        if !self.files.contains_key(stripe) {
-            self.files
-                .insert(String::from_str(alloc, stripe)?, StripeFiles::new())?;
-        }
+        begin(alloc, stripe, &mut self.files)?;
         if let Some(files) = self.files.get_mut(stripe) {
             files.found[place.index()] = found;
         }
@@ -104,7 +108,11 @@ impl StripeNames {
         alloc: Global,
         stripe: &str,
         place: Place,
-    ) -> Result<(), AllocError> {
+    ) -> Result<(), AllocError>
+        ensures noted { OnOk result (map named self.new.blocked.items ≡ map named self.old.blocked.items
+            ++ (if is_wanted self.old.part stripe.now then (stripe.now, place) ∷ [] else [])) }
+        ensures others { self.new ≡ record self.old { blocked = self.new.blocked } }
+    {
         if self.is_wanted(stripe) {
             let stripe = String::from_str(alloc, stripe)?;
             self.blocked.push(Alone { stripe, place })?;
@@ -113,12 +121,13 @@ impl StripeNames {
     }
 
     /// Notes that a stripe has to be there.
-    pub fn expect(&mut self, alloc: Global, stripe: &str) -> Result<(), AllocError> {
-        self.named = self.named.saturating_add(1);
-        if self.is_wanted(stripe) && !self.expected.contains(stripe) {
-            self.expected.insert(String::from_str(alloc, stripe)?)?;
-        }
-        Ok(())
+    pub fn expect(&mut self, alloc: Global, stripe: &str) -> Result<(), AllocError>
+        ensures expected { OnOk result (Gains (is_wanted self.old.part stripe.now) stripe.now self.old.expected self.new.expected) }
+        ensures others { self.new ≡ record self.old { named = one_more self.old.named; expected = self.new.expected } }
+    {
+        self.note_name();
+        let is_wanted = self.is_wanted(stripe);
+        put(is_wanted, alloc, stripe, &mut self.expected)
     }
 
     /// Notes that a fragment of a stripe has to be there.
@@ -127,7 +136,15 @@ impl StripeNames {
         alloc: Global,
         stripe: &str,
         place: Place,
-    ) -> Result<(), AllocError> {
+    ) -> Result<(), AllocError>
+        ensures expected { OnOk result (Gains (is_wanted self.old.part stripe.now) stripe.now self.old.expected self.new.expected) }
+        ensures voted { self.new.by_sums ≡ voted (code_of_place place) self.old.by_sums }
+        ensures others { self.new ≡ record self.old {
+          named = one_more self.old.named;
+          expected = self.new.expected;
+          by_sums = self.new.by_sums;
+        } }
+    {
         let is_narrow = Code::Narrow.has(place);
         self.by_sums
             .add(if is_narrow { Code::Narrow } else { Code::Wide });
@@ -135,20 +152,32 @@ impl StripeNames {
     }
 
     /// Whether a stripe has to be there.
-    pub fn is_expected(&self, stripe: &str) -> bool {
+    pub fn is_expected(&self, stripe: &str) -> bool
+        ensures { result ≡ contains_text self.now.expected stripe.now }
+    {
         self.expected.contains(stripe)
     }
 
     /// Notes that a description of a stripe has to be there, so that the stripe has to be there too.
-    pub fn expect_description(&mut self, alloc: Global, stripe: &str) -> Result<(), AllocError> {
-        if self.is_wanted(stripe) && !self.described.contains(stripe) {
-            self.described.insert(String::from_str(alloc, stripe)?)?;
-        }
+    pub fn expect_description(&mut self, alloc: Global, stripe: &str) -> Result<(), AllocError>
+        ensures described { OnOk result (Gains (is_wanted self.old.part stripe.now) stripe.now self.old.described self.new.described) }
+        ensures expected { OnOk result (Gains (is_wanted self.old.part stripe.now) stripe.now self.old.expected self.new.expected) }
+        ensures others { (self.new.by_descriptions ≡ self.old.by_descriptions) × (self.new.by_sums ≡ self.old.by_sums)
+            × (self.new.files ≡ self.old.files) × (self.new.part ≡ self.old.part) }
+    {
+        let is_wanted = self.is_wanted(stripe);
+        put(is_wanted, alloc, stripe, &mut self.described)?;
         self.expect(alloc, stripe)
     }
 
     /// Notes that there is a description of a stripe, which says that it is of a code.
-    pub fn describe(&mut self, alloc: Global, stripe: &str, code: Code) -> Result<(), AllocError> {
+    pub fn describe(&mut self, alloc: Global, stripe: &str, code: Code) -> Result<(), AllocError>
+        ensures voted { self.new.by_descriptions ≡ (if contains_text self.old.described stripe.now then self.old.by_descriptions
+            else voted code self.old.by_descriptions) }
+        ensures described { OnOk result (Gains (is_wanted self.old.part stripe.now) stripe.now self.old.described self.new.described) }
+        ensures expected { OnOk result (Gains (is_wanted self.old.part stripe.now) stripe.now self.old.expected self.new.expected) }
+        ensures others { (self.new.by_sums ≡ self.old.by_sums) × (self.new.files ≡ self.old.files) × (self.new.part ≡ self.old.part) }
+    {
         if !self.described.contains(stripe) {
             self.by_descriptions.add(code);
         }
@@ -156,20 +185,25 @@ impl StripeNames {
     }
 
     /// Notes that a file is named as a stripe's description and isn't one. It makes no stripe.
-    pub fn doubt(&mut self, alloc: Global, stripe: &str) -> Result<(), AllocError> {
-        if self.is_wanted(stripe) && !self.doubtful.contains(stripe) {
-            self.doubtful.insert(String::from_str(alloc, stripe)?)?;
-        }
-        Ok(())
+    pub fn doubt(&mut self, alloc: Global, stripe: &str) -> Result<(), AllocError>
+        ensures doubted { OnOk result (Gains (is_wanted self.old.part stripe.now) stripe.now self.old.doubtful self.new.doubtful) }
+        ensures others { self.new ≡ record self.old { doubtful = self.new.doubtful } }
+    {
+        let is_wanted = self.is_wanted(stripe);
+        put(is_wanted, alloc, stripe, &mut self.doubtful)
     }
 
     /// Whether a description of a stripe was met.
-    pub fn is_described(&self, stripe: &str) -> bool {
+    pub fn is_described(&self, stripe: &str) -> bool
+        ensures { result ≡ contains_text self.now.described stripe.now }
+    {
         self.described.contains(stripe)
     }
 
     /// Whether a stripe is of the part that is wanted.
-    pub fn is_wanted(&self, stripe: &str) -> bool {
+    pub fn is_wanted(&self, stripe: &str) -> bool
+        ensures { result ≡ is_wanted self.now.part stripe.now }
+    {
         match self.part {
             Some(part) => part.has(stripe),
             None => true,
@@ -245,4 +279,35 @@ impl StripeNames {
         stripes.block(blocked);
         Ok(stripes)
     }
+}
+
+/// Puts a stripe among others, if it is wanted and isn't there.
+fn put(
+    is_wanted: bool,
+    alloc: Global,
+    stripe: &str,
+    others: &mut BTreeSet<String>,
+) -> Result<(), AllocError>
+    ensures { OnOk result (Gains is_wanted stripe.now others.old others.new) }
+{
+    if !is_wanted || others.contains(stripe) {
+        return Ok(());
+    }
+    others.insert(String::from_str(alloc, stripe)?)?;
+    Ok(())
+}
+
+/// Puts a stripe without files among others, unless it is there.
+fn begin(
+    alloc: Global,
+    stripe: &str,
+    others: &mut BTreeMap<String, StripeFiles>,
+) -> Result<(), AllocError>
+    ensures { OnOk result (Begins stripe.now others.old others.new) }
+{
+    if others.contains_key(stripe) {
+        return Ok(());
+    }
+    others.insert(String::from_str(alloc, stripe)?, NO_FILES)?;
+    Ok(())
 }

@@ -1,11 +1,11 @@
 //! Of which code a store is: what is at the places of its stripes, and how many things say each code.
-ghost use Rattle.std.specs.Prelude.{◌↔◌, ◌≡◌, ◌≢◌, ◌+◌, ◌-◌, ◌^◌, ◌<◌, ◌≤◌, ◌⊎◌, Some, None, min, slice_index_or};
+ghost use Rattle.std.specs.Prelude.{◌↔◌, ◌≡◌, ◌≢◌, ◌+◌, ◌-◌, ◌^◌, ◌<◌, ◌≤◌, ◌⊎◌, Some, None, min, nat_le, slice_index_or};
 ghost use Rattle.std.specs.Bool.{IsTrue};
 ghost use Rattle.lrc_code.specs.Places.{index_of};
 ghost use Rattle.lrc_code.specs.declared.codes.Code.TheVariants.{Narrow, Wide};
 ghost use Rattle.stores.specs.declared.stripes.Found.TheVariants as found;
 ghost use Rattle.store_listing.specs.declared.votes.Others.TheVariants as others;
-ghost use Rattle.store_listing.specs.Votes.{SayWide, code_said, is_there, other_code, there_count, votes_of};
+ghost use Rattle.store_listing.specs.Votes.{SayWide, code_said, is_there, other_code, there_count, voted, votes_of};
 
 use lrc_code::{Code, Place};
 use stores::{Found, StripeFiles};
@@ -36,6 +36,7 @@ impl Votes {
     pub(crate) fn add(&mut self, code: Code)
         ensures added { votes_of self.new code ≡ min (votes_of self.old code + 1) (2 ^ 64 - 1) }
         ensures others { votes_of self.new (other_code code) ≡ votes_of self.old (other_code code) }
+        ensures all { self.new ≡ voted code self.old }
     {
         match code {
             Code::Narrow => self.narrow = self.narrow.saturating_add(1),
@@ -112,7 +113,8 @@ pub(crate) fn others_of(code: Code, described: Votes, placed: Votes) -> Others
 
 /// Whether files make a stripe of a code, though nothing else names it.
 pub(crate) fn are_stripe(files: &StripeFiles, code: Code) -> bool
-    ensures { IsTrue result ↔ (2 ≤ there_count code files.now.found) }
+    ensures enough { IsTrue result ↔ (2 ≤ there_count code files.now.found) }
+    ensures is { result ≡ nat_le 2 (there_count code files.now.found) }
 {
     count_of(files, code) >= LEAST_FRAGMENTS
 }
@@ -142,7 +144,7 @@ fn count_of(files: &StripeFiles, code: Code) -> usize
 }
 
 /// Whether there is something at a place.
-fn is_found(files: &StripeFiles, place: Place) -> bool
+pub(crate) fn is_found(files: &StripeFiles, place: Place) -> bool
     ensures { result ≡ is_there (slice_index_or files.now.found (index_of place) found.Absent) }
 {
     match files.found[place.index()] {
