@@ -1418,6 +1418,56 @@ def test_files_that_come_meanwhile(place, choose):
         hold(decoded(store, "a") == data and are_right(store), f"{came.name}: not the file after the same command")
 
 
+def test_encode_beside_links(place, choose):
+    """What has a name of the file's and is a link isn't the file, though it leads to the same bytes, unless links are followed: nothing
+    gets a name beside it."""
+    store, outside, file = place / "store", place / "outside", source(place, "a", choose.randbytes(900))
+    outside.mkdir()
+    run("encode", store, file, status=0)
+    for name in ("a.y1", "a.p1", "a.file", "a.file.copy"):
+        (store / name).rename(outside / name)
+        (store / name).symlink_to(outside / name)
+        whole = there(place)
+        (store / "a.x0").unlink()
+        before = there(place)
+        _, err = run("encode", store, file, status=1)
+        hold(f"{name}: is there already, with other bytes" in err and there(place) == before, f"{name}: {err}")
+        run("encode", "--follow-links", store, file, status=0)
+        hold((store / name).is_symlink() and there(place) == whole, f"{name}: not the file beside a link that is followed")
+        (store / name).unlink()
+        (outside / name).rename(store / name)
+    hold(are_right(store), "digests aren't those of the files")
+
+
+def test_encode_again_mends_digests(place, choose):
+    """A file that is encoded again has its digests again: those that are wanting, and those that are others than its files have."""
+    store, file = place / "store", source(place, "a", choose.randbytes(900))
+    run("encode", store, file, status=0)
+    hold(are_right(store), "digests aren't those of the files")
+    sums = store / "SHA256SUMS"
+    whole, other = sums.read_text(), hashlib.sha256(b"other").hexdigest()
+    for name in ("a.x0", "a.p1", "a.file.copy"):
+        for line in ("", f"{other}  {name}\n"):
+            sums.write_text("".join(line if it.endswith(f" {name}\n") else it for it in whole.splitlines(True)))
+            run("encode", store, file, status=0)
+            hold(sums.read_text() == whole, f"{name}: {line!r}")
+
+
+def test_short_files(place, choose):
+    """Of a file that is shorter than its fragments together those are enough that have bytes of it, or determine these."""
+    store = place / "store"
+    for length, kept in ((1, "x0"), (1, "x1 x2 px"), (7, "x0 x1 x2 y0"), (7, "x0 x2 px y0"), (7, "x0 x1 x2 y1 y2 py"),
+                         (25, "x0 x1 x2 y0 y1")):
+        data = choose.randbytes(length)
+        run("encode", "--replace", store, source(place, "a", data), status=0)
+        for one in set(PLACES) - set(kept.split()):
+            (store / f"a.{one}").unlink()
+        hold(run("read", store, "a", status=0)[0] == data, f"{length} bytes aren't read from {kept}")
+        run("verify", store, status=0)
+        (store / f"a.{kept[:2]}").unlink()
+        hold(run("read", store, "a", status=1)[0] == b"", f"{length} bytes are read from less than {kept}")
+
+
 def test_order_of_calls(place, choose):
     """What is written is on the disk before it gets a name, and the names are before the run ends: also those of folders that are made."""
     calls, store, file = Calls(place, forks=True), place / "store", source(place, "a", choose.randbytes(900))
