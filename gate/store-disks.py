@@ -227,6 +227,25 @@ def test_unmounted(place, choose):
     hold(there == {"source": b"other", "source.file": b"other"}, f"{sorted(there)}: {said}")
 
 
+def test_unmounted_behind_links(place, choose):
+    """Where links are followed, a disk whose folder is a link is mounted or not where that leads."""
+    words = ["--code", "6-2-2", "--names", "disk{shard}/{stripe}"]
+    store, source = place / "links-to-disks", place / "source"
+    store.mkdir()
+    source.write_bytes(choose.randbytes(5_000))
+    for number in range(10):
+        mount(place / f"behind{number}", 512 * KIB)
+        (place / f"behind{number}").chmod(0o755)
+        (store / f"disk{number}").symlink_to(place / f"behind{number}")
+    run("encode", "--follow-links", *words, store, source, status=0)
+    system("umount", place / "behind3")
+    said = run("repair", "--follow-links", *words, store, status=3)
+    hold_named(said, f"{store}/disk3", "no disk is mounted there")
+    said = run("encode", "--follow-links", *words, store, source, status=1)
+    hold_named(said, f"{store}/disk3", "no disk is mounted there")
+    hold(not [*(place / "behind3").iterdir()], f"something was made where no disk is mounted: {said}")
+
+
 def is_root():
     """Whether this is root of the whole machine, and not of a namespace of users alone."""
     return os.geteuid() == 0 and pathlib.Path("/proc/self/uid_map").read_text().split()[:2] == ["0", "0"]
@@ -339,7 +358,7 @@ def main(program):
     PROGRAM = pathlib.Path(program or PROGRAM).resolve()
     choose = random.Random(2026)
     tests = (test_full, test_most_lost_first, test_read_only, test_links, test_long_names, test_leftover_folder, test_unmounted,
-             test_other_users, test_owner, test_cut)
+             test_unmounted_behind_links, test_other_users, test_owner, test_cut)
     with tempfile.TemporaryDirectory() as scratch:
         place = pathlib.Path(scratch)
         place.chmod(0o755)
