@@ -8,8 +8,10 @@ Each expected byte is worked out here, and what a run that was killed leaves is 
 form alone."""
 
 import concurrent.futures
+import functools
 import hashlib
 import json
+import multiprocessing
 import os
 import pathlib
 import random
@@ -38,7 +40,7 @@ STAGED = ".rebuild-store-new"
 LEFTOVER = ".rebuild-store-0123456789abcdef"
 PLACES = ("x0", "x1", "x2", "y0", "y1", "y2", "px", "py", "p0", "p1")
 SECONDS = 120
-passed, skipped, faults = 0, [], []
+passed = 0
 
 
 class Fault(Exception):
@@ -2198,29 +2200,35 @@ def test_long_names(place, choose):
         hold("is no file of the store" in err and "too long" not in err, f"{command}: {err}")
 
 
+def tried(place, name):
+    """Runs a test, and gives how many checks passed, why it failed, and why it was left out."""
+    global passed
+    passed, fault, left_out, folder = 0, "", "", place / name
+    folder.mkdir()
+    try:
+        globals()[name](folder, random.Random(name))
+    except Fault as why:
+        fault = f"{name}: {why}"
+    except Skipped as why:
+        left_out = f"{name}: {why}"
+    shutil.rmtree(folder)
+    return passed, fault, left_out
+
+
 def main(program=None, only=""):
     global PROGRAM
     PROGRAM = pathlib.Path(program or PROGRAM).resolve()
-    choose = random.Random(2026)
-    tests = [value for name, value in globals().items() if name.startswith("test_") and only in name]
-    with tempfile.TemporaryDirectory() as scratch:
+    tests = [name for name in globals() if name.startswith("test_") and only in name]
+    with tempfile.TemporaryDirectory() as scratch, multiprocessing.get_context("fork").Pool(maxtasksperchild=1) as pool:
         place = pathlib.Path(scratch)
         place.chmod(0o755)
-        for test in tests:
-            folder = place / test.__name__
-            folder.mkdir()
-            try:
-                test(folder, choose)
-            except Fault as fault:
-                faults.append(f"{test.__name__}: {fault}")
-            except Skipped as why:
-                skipped.append(f"{test.__name__}: {why}")
-            shutil.rmtree(folder)
+        ended = pool.map(functools.partial(tried, place), tests, chunksize=1)
+    faults, skipped = [fault for _, fault, _ in ended if fault], [why for _, _, why in ended if why]
     for why in skipped:
         print(f"store-files skipped: {why}")
     for fault in faults:
         print(f"store-files: {fault}", file=sys.stderr)
-    print(f"store-files: {passed} passed, {len(faults)} failed, {len(skipped)} skipped")
+    print(f"store-files: {sum(count for count, _, _ in ended)} passed, {len(faults)} failed, {len(skipped)} skipped")
     sys.exit(1 if faults else 0)
 
 

@@ -37,7 +37,7 @@ NICER, LESS_NICER = "15", "5"
 # By how much that of a proof is: more by one for each so many seconds, about, by which the chains through it are shorter than the longest,
 # up to this; and of the proofs of tests, for which no crate waits. `rt ci` takes first what has the most lines from there on, and gives all
 # the same.
-FOR_ONE, OTHERS_NICER, TESTS_NICER = 200, 5, 7
+FOR_ONE, OTHERS_NICER, TESTS_NICER = 400, 5, 7
 # Seconds between two looks at the processes.
 BETWEEN = 1
 TICKS = os.sysconf("SC_CLK_TCK")
