@@ -178,9 +178,10 @@ FARM := $(addprefix gate/,refusals.py reference-lines.sh line-mode.py answers.py
   farm-calls.py farm-batches.py farm-shelves.py ends.sh numbers.py tables.py growth.py memory.py) tools/demo.sh
 FARM_NEEDS := rebuild,lrc_tests:tests,farm_lists_tests:tests,farm_tests:tests,store_tests:tests
 STORE_NEEDS := rebuild,rebuild_store,store_tests:tests
-# Their files lie in memory if there is such a folder with room, since programs wait for a disk at each sync, of which there are thousands.
-IN_MEMORY := $(if $(TMPDIR),,$(shell test -w /dev/shm && test $$(df --output=avail /dev/shm | tail -n 1) -gt 4000000 && \
-  echo TMPDIR=/dev/shm))
+# Their files lie in memory if there is such a folder with room, whose programs may run, since programs wait for a disk at each sync, of which
+# there are thousands.
+IN_MEMORY := $(if $(TMPDIR),,$(shell test -w /dev/shm && ! grep -q ' /dev/shm [^ ]* [^ ]*noexec' /proc/mounts && \
+  test $$(df --output=avail /dev/shm | tail -n 1) -gt 4000000 && echo TMPDIR=/dev/shm))
 
 # What it runs before them, of sources and pages; none of these writes a file of the repository.
 BEFORE := $(addprefix gate/,formatted.sh wrong-bodies.sh architecture.py sweep.py documented.py pages.py sentences.py messages.py \
