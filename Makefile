@@ -169,15 +169,15 @@ try-ceph-releases: store
 	ceph/releases.sh
 
 # What the gate runs over the programs and tests that the proofs leave in each crate's out/, as soon as these are there: FARM needs the
-# program `rebuild` and tests, STORE both programs and a test. No two of these share a file that one of them writes, so several run at once,
-# first those that take long.
+# program `rebuild` and tests; STORE needs both programs, and waits for all tests too, so that few proofs run beside what has time limits.
+# No two of these share a file that one of them writes, so several run at once, first those that take long.
 STORE := ceph/test.sh $(addprefix gate/,store-files.py store-strangers.py store-faults.py file-faults.py encode-store.py store-damage.py \
   repair-store.py store-watching.py store-sharing.py packages.sh store-life.py store-options.py store-arguments.py store-results.py \
   store-names.py store-records.py store-disks.py no-compile.py examples.py manual.sh completions.sh install.sh version.sh)
 FARM := $(addprefix gate/,refusals.py reference-lines.sh line-mode.py answers.py codes.py arguments.py lists.py farm-folders.py \
   farm-calls.py farm-batches.py farm-shelves.py ends.sh numbers.py tables.py growth.py memory.py) tools/demo.sh
 FARM_NEEDS := rebuild,lrc_tests:tests,farm_lists_tests:tests,farm_tests:tests,store_tests:tests
-STORE_NEEDS := rebuild,rebuild_store,store_tests:tests
+STORE_NEEDS := $(FARM_NEEDS),rebuild_store
 # Their files lie in memory if there is such a folder with room, whose programs may run, since programs wait for a disk at each sync, of which
 # there are thousands.
 IN_MEMORY := $(if $(TMPDIR),,$(shell test -w /dev/shm && ! grep -q ' /dev/shm [^ ]* [^ ]*noexec' /proc/mounts && \
