@@ -1455,6 +1455,46 @@ def test_encode_again_mends_digests(place, choose):
             hold(sums.read_text() == whole, f"{name}: {line!r}")
 
 
+def test_replace_through_links(place, choose):
+    """A file one of whose names is a link isn't replaced, also where links are followed: the name would be of the new file, and where the
+    link leads the old one would stay. Nor is one whose link leads nowhere."""
+    store, outside, file = place / "store", place / "outside", source(place, "a", choose.randbytes(900))
+    outside.mkdir()
+    run("encode", store, file, status=0)
+    file.write_bytes(choose.randbytes(800))
+    for name in ("a.x0", "a.p1", "a.file", "a.file.copy"):
+        for leads in (True, False):
+            (store / name).rename(outside / name)
+            (store / name).symlink_to(outside / (name if leads else "nothing"))
+            before = there(place)
+            _, err = run("encode", "--replace", "--follow-links", store, file, status=1)
+            hold(f"{name}: is no regular file, and isn't replaced" in err, f"{name}: {err}")
+            hold((store / name).is_symlink() and there(place) == before, f"{name}: something is written beside a link")
+            (store / name).unlink()
+            (outside / name).rename(store / name)
+    run("encode", "--replace", "--follow-links", store, file, status=0)
+    hold(decoded(store, "a") == file.read_bytes() and are_right(store), "not the new file")
+
+
+def test_remove_of_another_code(place, choose):
+    """In a store of both codes a file goes with all of its fragments, whatever code most files have, and nothing of another file goes."""
+    for pattern in ([], DISKS):
+        for most, other in (("6-2-2", "12-2-2"), ("12-2-2", "6-2-2")):
+            store, beside = place / f"store-{most}-{len(pattern)}", place / f"beside-{most}-{len(pattern)}"
+            for name in ("a", "b", "c"):
+                run("encode", "--make-folders", "--code", most, *pattern, store, source(place, name, choose.randbytes(900)), status=0)
+            before, sums = there(store), (store / "SHA256SUMS").read_text()
+            run("encode", "--make-folders", "--code", other, *pattern, beside, source(place, "w", choose.randbytes(700)), status=0)
+            more = (beside / "SHA256SUMS").read_text()
+            (beside / "SHA256SUMS").unlink()
+            for code in ([], ["--code", most], ["--code", other]):
+                shutil.copytree(beside, store, dirs_exist_ok=True)
+                (store / "SHA256SUMS").write_text(sums + more)
+                run("remove", *pattern, *code, store, "w", status=0)
+                hold(there(store) | {"SHA256SUMS": b""} == before | {"SHA256SUMS": b""}, f"{most} {pattern} {code}: {sorted(there(store))}")
+                hold(are_right(store), f"{most} {pattern} {code}: digests aren't those of the files")
+
+
 def test_short_files(place, choose):
     """Of a file that is shorter than its fragments together those are enough that have bytes of it, or determine these."""
     store = place / "store"

@@ -13,28 +13,63 @@ use crate::own_folders::remove_own_folders;
 use crate::refusing::refused;
 use crate::taking::take_files;
 use folders::Folder;
+use lrc_code::Code;
 use std::alloc::{AllocError, Global};
 use std::io::ErrorKind;
 use store_faults::{FileFault, device, say};
-use store_files::{Target, is_there, no_stored, own_description, refuse_linked, staged_name};
+use store_files::{
+    StoredFile, Target, first_described, is_there, no_stored, own_description, refuse_linked,
+    staged_name,
+};
 use store_folder::{
     Digest, Sums, SystemFolder, description_names, is_absent, is_description_name, read_description,
 };
 use store_repair::NameFault;
 
 /// Takes the file of a name out of a store, with what a run has left that was to replace it, and with the folders that it had alone. What
-/// isn't a regular file is left, and named.
+/// isn't a regular file is left, and named. A file whose description says another code than the store's goes as one of that code.
 pub fn remove_stored(
     rt: &HostRuntime,
     target: &mut Target<'_>,
     name: &str,
 ) -> Result<(), FileFault> {
+    let staged = staged_name(rt.alloc(), name)?;
+    let code = target.code;
+    target.code = code_of(rt, target, [name, staged.as_str()])?;
+    let removed = remove_named(rt, target, name, staged.as_str());
+    target.code = code;
+    removed
+}
+
+/// The code that the first of these stripes with a description is said to have, and that of the store where none has one.
+fn code_of(rt: &HostRuntime, target: &Target<'_>, names: [&str; 2]) -> Result<Code, FileFault> {
+    for name in names {
+        let file = StoredFile {
+            folder: target.folder,
+            pattern: target.pattern,
+            name,
+            links: target.links,
+            progress: None,
+        };
+        if let Some(described) = first_described(rt, &file)? {
+            return Ok(described.code);
+        }
+    }
+    Ok(target.code)
+}
+
+/// Takes the file of a name out of a store, and what was to replace it, by the target's code.
+fn remove_named(
+    rt: &HostRuntime,
+    target: &mut Target<'_>,
+    name: &str,
+    staged: &str,
+) -> Result<(), FileFault> {
     let alloc = rt.alloc();
     if !target.has_names(alloc, name)? || has_description(rt, target, name)? {
         return Err(no_stored(alloc, name, target.folder)?);
     }
-    let staged = staged_name(alloc, name)?;
-    remove_files(rt, target, name, staged.as_str())
+    remove_files(rt, target, name, staged)
 }
 
 /// Whether a description of another file has the name of one of a stripe's fragments, as `disk3/a.file` is of a file `a`.

@@ -12,7 +12,7 @@ use std::fs;
 use std::io::ErrorKind;
 use store_faults::{FileFault, device};
 use store_files::Target;
-use store_folder::{MOST_BYTES, SUMS_NAME, description_names, is_absent, look_at};
+use store_folder::{MOST_BYTES, SUMS_NAME, description_names, is_absent};
 use store_names::is_free;
 
 /// The names in the store of a stripe's files.
@@ -87,7 +87,8 @@ pub(crate) fn refuse_irregular(
     refuse_others_than(rt, target, files.descriptions.as_slice(), MOST_BYTES)
 }
 
-/// Refuses to replace what has some names if that is something else than a file of at most so many bytes.
+/// Refuses to replace what has some names if that is something else than a file of at most so many bytes. A link is refused even where
+/// links are followed: what replaces a file gets its name, so that where the link leads the old bytes would stay.
 fn refuse_others_than(
     rt: &HostRuntime,
     target: &Target<'_>,
@@ -97,7 +98,7 @@ fn refuse_others_than(
     let alloc = rt.alloc();
     for name in names {
         let path = target.path(alloc, name.as_str())?;
-        match look_at(rt, path.as_str(), target.links) {
+        match fs::symlink_metadata(rt, path.as_str()) {
             Ok(there) if !there.is_file() => {
                 return Err(refused(format!(in alloc;
                     "{name}: is no regular file, and isn't replaced"
