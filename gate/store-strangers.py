@@ -826,6 +826,25 @@ def test_runs_of_one_part(place, choose):
     hold(there(store) == files, "the store isn't what it was")
 
 
+def test_read_while_replaced(place, choose):
+    """A file that is replaced at any moment of a read is read nevertheless: all of the old one or all of the new one."""
+    store, source, output = place / "store", place / "a", place / "read"
+    files = [choose.randbytes(900), choose.randbytes(700)]
+    source.write_bytes(files[0])
+    run("encode", store, source, status=0)
+    calls = Calls(place, forks=True)
+    command = [PROGRAM, "read", store, "a", "-o", output]
+    ran = calls.run(command)
+    hold(ran.status == 0 and output.read_bytes() == files[0], ran.text())
+    for number in range(1, len(ran.kinds) + 1):
+        output.unlink(missing_ok=True)
+        with waiting(calls, place, command, number) as go_on:
+            source.write_bytes(files[number % 2])
+            run("encode", "--replace", store, source, status=0)
+            status, said = go_on()
+        hold(status == 0 and output.read_bytes() in files, f"call {number}, {ran.kind_of(number)}: status {status}: {said}")
+
+
 def has_lost(store, part):
     """Whether a dry run of a part has something to do."""
     done = subprocess.run([PROGRAM, "repair", store, "--part", part, "--dry-run"], capture_output=True, text=True)

@@ -7,12 +7,16 @@ ghost use Rattle.std.specs.Prelude.{◌≡◌, vec_len};
 
 use destination::write_at;
 use output::write_out;
-use store_faults::FileFault;
+use store_faults::{FileFault, say};
 use store_files::{
-    Fragments, Missing, Sought, StoredFile, descriptions_for_sure, descriptions_of, is_whole,
-    open_fragments, set_that_fits, shares_fragment, staged_name, unread_of,
+    Fragments, Missing, Sought, StoredFile, descriptions_for_sure, descriptions_of,
+    first_described, is_whole, open_fragments, set_that_fits, shares_fragment, staged_name,
+    unread_of,
 };
 use store_folder::{Described, SystemFolder};
+
+/// How often a file is read at most that other runs replace meanwhile.
+const MOST_TIMES: usize = 8;
 
 /// What is done with a file that is read.
 #[derive(Clone, Copy)]
@@ -23,7 +27,7 @@ enum ReadTo<'a> {
 }
 
 /// Writes a file of a store to a file, or to standard output if none is named, and says what was left out. If a run that was to replace the
-/// file was killed, what replaces it is written as soon as all of that is there.
+/// file was killed, what replaces it is written as soon as all of that is there. A file that is replaced meanwhile is read again.
 pub fn read_file(
     rt: &HostRuntime,
     file: &StoredFile<'_, '_>,
@@ -38,8 +42,59 @@ pub fn read_file(
         name: staged.as_str(),
         ..*file
     };
-    if is_newer(rt, &staged, file)? {
-        return read_fitting(rt, &staged, output);
+    for _time in 1..MOST_TIMES {
+        let seen = Seen::now(rt, &staged, file)?;
+        match read_newest(rt, &staged, file, seen, output) {
+            // A refusal comes before a byte is written.
+            Err(fault) if matches!(&fault, FileFault::Refused { .. }) => {
+                if Seen::now(rt, &staged, file)? == seen {
+                    return Err(fault);
+                }
+                let name = file.name;
+                let _ = say(rt, format!(in rt.alloc();
+                    "rebuild-store: {name}: was replaced meanwhile, and is read again"
+                ));
+            }
+            done => return done,
+        }
+    }
+    let seen = Seen::now(rt, &staged, file)?;
+    read_newest(rt, &staged, file, seen, output)
+}
+
+/// What is seen of a file before it is read. If that is other after a read that failed, the file was replaced meanwhile, and fragments of
+/// both may have been read.
+#[derive(Clone, Copy, PartialEq, Eq)]
+struct Seen {
+    described: Option<Described>,
+    /// Whether all of the stripe is there that is to replace the file.
+    is_newer: bool,
+}
+
+impl Seen {
+    /// What is seen now.
+    fn now(
+        rt: &HostRuntime,
+        staged: &StoredFile<'_, '_>,
+        file: &StoredFile<'_, '_>,
+    ) -> Result<Seen, FileFault> {
+        Ok(Seen {
+            described: first_described(rt, file)?,
+            is_newer: is_newer(rt, staged, file)?,
+        })
+    }
+}
+
+/// Reads a file, or what replaces it where all of that was seen.
+fn read_newest(
+    rt: &HostRuntime,
+    staged: &StoredFile<'_, '_>,
+    file: &StoredFile<'_, '_>,
+    seen: Seen,
+    output: ReadTo<'_>,
+) -> Result<(), FileFault> {
+    if seen.is_newer {
+        return read_fitting(rt, staged, output);
     }
     read_fitting(rt, file, output)
 }
