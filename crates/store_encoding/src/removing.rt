@@ -33,7 +33,12 @@ pub fn remove_stored(
     target: &mut Target<'_>,
     name: &str,
 ) -> Result<(), FileFault> {
-    let staged = staged_name(rt.alloc(), name)?;
+    let alloc = rt.alloc();
+    // A description is looked for in the store alone.
+    if !target.has_names(alloc, name)? {
+        return Err(no_stored(alloc, name, target.folder)?);
+    }
+    let staged = staged_name(alloc, name)?;
     let code = target.code;
     target.code = code_of(rt, target, [name, staged.as_str()])?;
     let removed = remove_named(rt, target, name, staged.as_str());
