@@ -1487,7 +1487,8 @@ def test_remove_of_another_code(place, choose):
             run("encode", "--make-folders", "--code", other, *pattern, beside, source(place, "w", choose.randbytes(700)), status=0)
             more = (beside / "SHA256SUMS").read_text()
             (beside / "SHA256SUMS").unlink()
-            for code in ([], ["--code", most], ["--code", other]):
+            # With numbers of disks a code has to be named.
+            for code in (["--code", most], ["--code", other], *([] if pattern else [[]])):
                 shutil.copytree(beside, store, dirs_exist_ok=True)
                 (store / "SHA256SUMS").write_text(sums + more)
                 run("remove", *pattern, *code, store, "w", status=0)

@@ -44,22 +44,19 @@ pub fn read_file(
     };
     for _time in 1..MOST_TIMES {
         let seen = Seen::now(rt, &staged, file)?;
-        match read_newest(rt, &staged, file, seen, output) {
-            // A refusal comes before a byte is written.
-            Err(fault) if matches!(&fault, FileFault::Refused { .. }) => {
-                if Seen::now(rt, &staged, file)? == seen {
-                    return Err(fault);
-                }
-                let name = file.name;
-                let _ = say(rt, format!(in rt.alloc();
-                    "rebuild-store: {name}: was replaced meanwhile, and is read again"
-                ));
-            }
-            done => return done,
+        let Some(fault) = read_newest(rt, &staged, file, seen, output)? else {
+            return Ok(());
+        };
+        if Seen::now(rt, &staged, file)? == seen {
+            return Err(fault);
         }
+        let name = file.name;
+        let _ = say(rt, format!(in rt.alloc();
+            "rebuild-store: {name}: was replaced meanwhile, and is read again"
+        ));
     }
     let seen = Seen::now(rt, &staged, file)?;
-    read_newest(rt, &staged, file, seen, output)
+    read_newest(rt, &staged, file, seen, output)?.map_or(Ok(()), Err)
 }
 
 /// What is seen of a file before it is read. If that is other after a read that failed, the file was replaced meanwhile, and fragments of
@@ -85,14 +82,15 @@ impl Seen {
     }
 }
 
-/// Reads a file, or what replaces it where all of that was seen.
+/// Reads a file, or what replaces it where all of that was seen. Gives why the fragments don't give it, if they don't: then nothing is
+/// written.
 fn read_newest(
     rt: &HostRuntime,
     staged: &StoredFile<'_, '_>,
     file: &StoredFile<'_, '_>,
     seen: Seen,
     output: ReadTo<'_>,
-) -> Result<(), FileFault> {
+) -> Result<Option<FileFault>, FileFault> {
     if seen.is_newer {
         return read_fitting(rt, staged, output);
     }
@@ -134,17 +132,22 @@ fn is_whole_of(
 
 /// Holds a file of a store to its digest, and says what was left out.
 pub fn verify_file(rt: &HostRuntime, file: &StoredFile<'_, '_>) -> Result<(), FileFault> {
-    read_fitting(rt, file, ReadTo::Nothing)
+    read_fitting(rt, file, ReadTo::Nothing)?.map_or(Ok(()), Err)
 }
 
-/// Finds fragments that give a file, and writes it to an output, if there is to be one.
+/// Finds fragments that give a file, and writes it to an output, if there is to be one. Gives why none do, before anything is written.
 fn read_fitting(
     rt: &HostRuntime,
     file: &StoredFile<'_, '_>,
     output: ReadTo<'_>,
-) -> Result<(), FileFault> {
+) -> Result<Option<FileFault>, FileFault> {
+    let said = match descriptions_of(rt, file) {
+        Ok(said) => said,
+        Err(fault) if matches!(&fault, FileFault::OutOfMemory) => return Err(fault),
+        Err(fault) => return Ok(Some(fault)),
+    };
     let mut unread = None;
-    for described in descriptions_of(rt, file)? {
+    for described in said {
         let sought = Sought::new(file, described);
         let fragments = open_fragments(rt, &sought, Missing::Said)?;
         let is_read = match output {
@@ -155,20 +158,20 @@ fn read_fitting(
             }
         };
         if is_read {
-            return Ok(());
+            return Ok(None);
         }
         if unread.is_none() {
             unread = unread_of(rt, &sought, &fragments)?;
         }
     }
-    if let Some(fault) = unread {
-        return Err(fault);
+    if unread.is_some() {
+        return Ok(unread);
     }
     let name = file.name;
     let what = format!(in rt.alloc();
         "{name}: the fragments that are there don't give the file that {name}.file describes"
     )?;
-    Err(FileFault::Refused { what })
+    Ok(Some(FileFault::Refused { what }))
 }
 
 /// Writes the file to standard output if the fragments give it, which is known before its first byte is written. Says whether they do.
