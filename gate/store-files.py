@@ -2241,6 +2241,392 @@ def test_long_names(place, choose):
         hold("is no file of the store" in err and "too long" not in err, f"{command}: {err}")
 
 
+def test_new_file_that_fails_beside_replace(place, choose):
+    """A new file of which something can't be written isn't encoded with --replace either: that is said, and it isn't tried another way."""
+    calls, store, file = Calls(place, forks=True), place / "store", source(place, "a", choose.randbytes(900))
+    command, tried = [PROGRAM, "encode", "--replace", store, file], set()
+    kinds = calls.run(command).kinds
+    hold(decoded(store, "a") == file.read_bytes(), "the file isn't encoded")
+    for number, kind in enumerate(kinds[: kinds.index("link")], 1):
+        if kind in ("create", "write"):
+            shutil.rmtree(store)
+            ended = calls.run(command, number, 28)
+            # The file is digested beside that, so that the calls aren't in the same order each time.
+            if ended.kind in ("create", "write"):
+                tried.add(ended.kind)
+                hold(ended.status == 3 and "No space left on device" in ended.err, f"call {number}: {ended.text()}")
+                hold(not [it for it in there(store) if it[0] == "a"], f"call {number}: {sorted(there(store))}")
+    hold(tried == {"create", "write"}, f"tried {tried}")
+
+
+def limited_to(most):
+    """What has a run that is started so write no file of more bytes than these."""
+    return lambda: resource.setrlimit(resource.RLIMIT_FSIZE, (most, resource.getrlimit(resource.RLIMIT_FSIZE)[1]))
+
+
+def test_folders_that_are_not_the_files_own(place, choose):
+    """With a store's last file go the folders that have its name, and not those above them; and a folder of others stays that is one of
+    those in which a file is to be replaced, where it can't be."""
+    store, names = place / "store", ["--names", "s/{stripe}/d{place}/f"]
+    run("encode", "--make-folders", *names, store, source(place, "a", choose.randbytes(500)), status=0)
+    theirs = store / f"s/a{STAGED}/dp1"
+    theirs.mkdir(parents=True)
+    run("encode", "--replace", *names, store, source(place, "a", bytes(300_000)), status=1, preexec_fn=limited_to(20_480))
+    hold(theirs.is_dir(), "a folder of others is gone")
+    shutil.rmtree(theirs.parent)
+    run("remove", "--code", "6-2-2", *names, store, "a", status=0)
+    left = sorted(str(it.relative_to(store)) for it in store.rglob("*"))
+    hold(left == ["SHA256SUMS", "s"], f"left {left}")
+
+
+def test_remove_by_the_name_of_the_only_description(place, choose):
+    """What has the name of a file's only description is no file that could be taken out, whichever disk has it, also where it can't be
+    read."""
+    calls = Calls(place, forks=True)
+    for only in (0, 4, 9):
+        store = place / f"store-{only}"
+        run("encode", "--make-folders", *DISKS, store, source(place, "a", choose.randbytes(500)), status=0)
+        for number in set(range(10)) - {only}:
+            (store / f"disk{number}/a.file").unlink()
+        before, command = there(store), [PROGRAM, "remove", *CODED, store, "a.file"]
+        _, err = run(*command[1:], status=1)
+        hold("a.file: is no file of the store" in err and there(store) == before, f"disk{only}: {err}")
+    tried = set()
+    for number, kind in enumerate(calls.run(command).kinds, 1):
+        if kind in ("look", "open", "read"):
+            # The next call at its path is answered.
+            ended = calls.run(command, number, 5)
+            if ended.paths == (str(store / "disk9/a.file"),):
+                tried.add(kind)
+                hold(ended.status in (1, 3) and there(store) == before, f"call {number}, {kind}: {ended.text()}")
+    hold(tried == {"look", "open", "read"}, f"tried {tried}")
+
+
+def test_remove_beside_a_linked_folder(place, choose):
+    """Nothing is taken out through a link in place of a file's folder, or of the one in which it is to be replaced, unless links are
+    followed."""
+    names, outside = ["--names", "{stripe}/{place}"], place / "outside"
+    for folder in ("a", f"a{STAGED}"):
+        store, _, _ = begun_replacement(place, choose, *names)
+        (store / folder).rename(outside)
+        (store / folder).symlink_to(outside)
+        before = there(outside), lasting(store)
+        _, err = run("remove", "--code", "6-2-2", *names, store, "a", status=3)
+        hold("its folder is a link, and links aren't followed" in err and (there(outside), lasting(store)) == before, f"{folder}: {err}")
+        run("remove", "--follow-links", "--code", "6-2-2", *names, store, "a", status=0)
+        hold(not lasting(outside) and set(lasting(store)) == {"SHA256SUMS"}, f"{folder}: left {sorted(outside.iterdir())}")
+        shutil.rmtree(store)
+        shutil.rmtree(outside)
+
+
+def test_remove_what_is_left_of_a_file(place, choose):
+    """Whatever one file is left of a file, or of what was to replace it, goes with the file's name, also beside disks that are gone."""
+    first, _, _ = begun_replacement(place, choose)
+    run("encode", first, source(place, "b", b"b"), status=0)
+    store = place / "one"
+    for ending in (".file", ".file.copy", ".x0", ".p1"):
+        for name in (f"a{ending}", f"a{STAGED}{ending}"):
+            shutil.copytree(first, store)
+            for path in store.glob("a.*"):
+                path.unlink() if path.name != name else None
+            run("remove", store, "a", status=0)
+            hold({it.split(".")[0] for it in there(store)} == {"b", "SHA256SUMS"} and are_right(store), f"{name}: {sorted(there(store))}")
+            shutil.rmtree(store)
+    # Also the only description of a file in a store that was made before.
+    run("encode", "--make-folders", *DISKS, store, place / "b", status=0)
+    (store / "a.file").write_bytes(description_of(b"gone"))
+    run("remove", *CODED, store, "a", status=0)
+    hold({it.split("/")[-1].split(".")[0] for it in there(store)} == {"b", "SHA256SUMS"}, f"{sorted(there(store))}")
+    run("encode", *DISKS, store, place / "a", status=0)
+    shutil.rmtree(store / "disk3")
+    run("remove", *CODED, store, "a", status=0)
+    hold(not [*store.rglob("a*")], f"beside a disk that is gone: {sorted(there(store))}")
+
+
+def test_remove_where_one_description_stays(place, choose):
+    """A file keeps its digests, and the folders of its disks, where any description of it stays."""
+    calls, kept, store = Calls(place, forks=True), place / "kept", place / "store"
+    for pattern, first, middle, empty in (("disk{shard}/{stripe}", "disk0/a.file", "disk5/a.file", "disk9/a"),
+                                          ("{stripe}/d{place}/f", "a/dx0/a.file", "a/dy2/a.file", "a/dp1/f")):
+        words = ["--names", pattern, "--code", "6-2-2"]
+        run("encode", "--make-folders", *words, kept, source(place, "a", choose.randbytes(600)), status=0)
+        (kept / first).unlink()
+        (kept / empty).unlink()
+        lines, command = sums_of(kept), [PROGRAM, "remove", *words, store, "a"]
+        shutil.copytree(kept, store)
+        for number, kind in enumerate(calls.run(command).kinds, 1):
+            if kind == "unlink":
+                shutil.rmtree(store)
+                shutil.copytree(kept, store)
+                ended = calls.run(command, number, 30, "path")
+                if ended.paths == (str(store / middle),):
+                    break
+        hold(ended.paths == (str(store / middle),) and ended.status == 3, ended.text())
+        hold(sums_of(store) == lines, f"{pattern}: digests of {sorted(lines.keys() - sums_of(store).keys())} are gone")
+        hold((store / empty).parent.is_dir(), f"{pattern}: the folder of a lost fragment is gone, and the file isn't")
+        run(*command[1:], status=0)
+        hold(set(there(store)) == {"SHA256SUMS"} and not sums_of(store), f"{pattern}: {sorted(there(store))}")
+        shutil.rmtree(store)
+        shutil.rmtree(kept)
+
+
+def test_remove_what_cannot_be_looked_at(place, choose):
+    """A file isn't said to be taken out where it can't be seen whether all of it is gone; of several odd things the first is named."""
+    calls, first, store = Calls(place, forks=True), place / "first", place / "store"
+    run("encode", first, source(place, "a", choose.randbytes(600)), source(place, "b", b"b"), status=0)
+    shutil.copytree(first, store)
+    command, tried = [PROGRAM, "remove", store, "a"], set()
+    for number, kind in enumerate(calls.run(command).kinds, 1):
+        if kind == "look":
+            shutil.rmtree(store)
+            shutil.copytree(first, store)
+            ended = calls.run(command, number, 5)
+            left = [it for it in there(store) if it.startswith("a.")]
+            is_said = ended.status == 3 and "Input/output error" in ended.err
+            hold(is_said or ended.status == 0 and not left and are_right(store), f"call {number}, {ended.paths}: {ended.text()} {left}")
+            tried.add(pathlib.Path(ended.paths[0]).name)
+    hold(tried >= {"a.file", "a.file.copy", *(f"a.{one}" for one in PLACES)}, f"tried {tried}")
+    shutil.rmtree(store)
+    shutil.copytree(first, store)
+    for one in ("y0", "p1"):
+        (store / f"a.{one}").unlink()
+        (store / f"a.{one}").mkdir()
+    _, err = run(*command[1:], status=1)
+    hold("a.y0: is no regular file, and isn't removed" in err, err)
+
+
+def test_description_beside_a_fragment_of_one_code(place, choose):
+    """What was to replace a file stays if a fragment of it is beside its description, also one that the (12,2,2) code alone has."""
+    store, code = place / "store", ["--code", "12-2-2"]
+    run("encode", *code, store, source(place, "a", choose.randbytes(900)), status=0)
+    (store / f"a{STAGED}.file").write_bytes(description_of(b"gone", "12-2-2"))
+    (store / f"a{STAGED}.y5").write_bytes(b"g")
+    before = there(store)
+    for words in ([], ["--replace"]):
+        _, err = run("encode", *words, *code, store, place / "a", status=1)
+        hold("too little of it is there to replace a file" in err and there(store) == before, f"{words}: {err}")
+
+
+def test_description_on_a_disk_without_a_fragment(place, choose):
+    """A disk that has a description isn't away, so that what was to replace a file is gone where those that may be are too few."""
+    store = place / "store"
+    run("encode", "--make-folders", *DISKS, store, source(place, "a", b""), status=0)
+    whole = there(store)
+    (store / f"disk0/a{STAGED}.file").write_bytes(description_of(b"gone"))
+    for number in range(6):
+        (store / f"disk{number}/a").unlink()
+    run("encode", *DISKS, store, place / "a", status=0)
+    hold(there(store) == whole, f"{sorted(set(there(store)) ^ set(whole))}")
+
+
+def test_rights_of_descriptions_of_a_replacement(place, choose):
+    """A description that is made again of what replaces a file has the owner of those that are there, and their rights to read and write
+    that each of them has; and nobody but its user may read it where they aren't of one owner and one group."""
+    if os.geteuid() != 0:
+        raise Skipped("only root can give files away")
+    kept, old, _ = begun_replacement(place, choose, *DISKS)
+    for number in range(2, 10):
+        (kept / f"disk{number}/a{STAGED}.file").unlink()
+    me, other = (os.geteuid(), os.getegid()), (1_234, 4_321)
+    for modes, owners, want in (((0o640, 0o664), (other, other), (0o640, other)), ((0o664, 0o604), (other, other), (0o604, other)),
+                                ((0o755, 0o755), (me, me), (0o644, me)), ((0o644, 0o644), (other, (1_235, 4_321)), (0o600, me)),
+                                ((0o644, 0o644), (other, (1_234, 4_322)), (0o600, me))):
+        store = place / "again"
+        shutil.copytree(kept, store)
+        for number, (mode, owner) in enumerate(zip(modes, owners)):
+            copy = store / f"disk{number}/a{STAGED}.file"
+            os.chown(copy, *owner)
+            copy.chmod(mode)
+        run("encode", *DISKS, store, source(place, "a", old), status=1)
+        made = [os.stat(store / f"disk{number}/a.file") for number in range(2, 10)]
+        rights = {(stat.S_IMODE(it.st_mode), (it.st_uid, it.st_gid)) for it in made}
+        hold(rights == {want}, f"{modes}, {owners}: {rights}")
+        shutil.rmtree(store)
+
+
+def test_description_that_says_the_same_stays(place, choose):
+    """A new description that has its name already isn't made once more where the next run ends the work."""
+    kept, _, new = begun_replacement(place, choose)
+    calls, store = Calls(place, forks=True), place / "again"
+    command, staged = [PROGRAM, "encode", "--replace", store, place / "a"], store / f"a{STAGED}.file"
+    shutil.copytree(kept, store)
+    kinds = calls.run(command).kinds
+    given = [number for number, kind in enumerate(kinds, 1) if kind == "rename"][len(PLACES) + 1]
+    for number in [number for number, kind in enumerate(kinds, 1) if kind == "unlink" and number > given]:
+        shutil.rmtree(store)
+        shutil.copytree(kept, store)
+        killed = calls.run(command, number, "kill")
+        if killed.paths == (str(staged),):
+            break
+    hold(killed.paths == (str(staged),) and not staged.with_name(f"{staged.name}.copy").exists(), f"{killed.paths}")
+    copy = store / "a.file.copy"
+    before = copy.stat().st_ino, copy.stat().st_ctime_ns
+    run(*command[1:], status=0)
+    hold((copy.stat().st_ino, copy.stat().st_ctime_ns) == before, "a description that was right was made again")
+    hold(decoded(store, "a") == new and are_right(store), f"not the new file: {sorted(there(store))}")
+
+
+def test_replacement_that_cannot_be_read_for_a_while(place, choose):
+    """What was begun and can't be read, since a fragment fails of the few that it has, isn't called damaged: the fragment is named, and all
+    stays. Of fragments that are lost nothing is said where the others give the file."""
+    kept, _, new = begun_replacement(place, choose)
+    for one in ("x1", "x2", "y1", "p1"):
+        (kept / f"a{STAGED}.{one}").unlink()
+    calls, store, tried, before = Calls(place, forks=True), place / "again", set(), lasting(kept)
+    command, staged = [PROGRAM, "encode", "--replace", store, place / "a"], store / f"a{STAGED}.y0"
+    shutil.copytree(kept, store)
+    ended = calls.run(command)
+    hold(ended.status == 0 and "left out" not in ended.err and run("read", store, "a", status=0)[0] == new, ended.text())
+    for number, kind in enumerate(ended.kinds[: ended.kinds.index("rename")], 1):
+        if kind in ("open", "read"):
+            shutil.rmtree(store)
+            shutil.copytree(kept, store)
+            ended = calls.run(command, number, 5, "path")
+            if ended.paths == (str(staged),):
+                tried.add(kind)
+                hold(ended.status == 3 and f"{staged}: Input/output error" in ended.err, f"call {number}, {kind}: {ended.text()}")
+                hold(lasting(store) == before, f"call {number}, {kind}: {sorted(there(store))}")
+    hold(tried == {"open", "read"}, f"tried {tried}")
+
+
+def test_most_descriptions_are_tried_first(place, choose):
+    """A description that says otherwise than most copies costs no reads of fragments."""
+    store, calls = place / "store", Calls(place, forks=True)
+    run("encode", "--make-folders", *DISKS, store, source(place, "a", choose.randbytes(6_000)), status=0)
+
+    def reads():
+        ended = calls.run([PROGRAM, "verify", *DISKS, store, "a"])
+        hold(ended.status == 0, ended.text())
+        return ended.kinds.count("read")
+
+    once = reads()
+    (store / "disk0/a.file").write_bytes(description_of(choose.randbytes(6_000)))
+    many = reads()
+    hold(many <= once, f"{many} reads, where once is {once}")
+
+
+def test_replacement_given_beside_a_lost_fragment(place, choose):
+    """What has a name of the old file already stays while a fragment of it has none yet, also where the old one there is lost."""
+    kept, _, _ = begun_replacement(place, choose)
+    calls, command = Calls(place, forks=True), [PROGRAM, "encode", "--replace", kept, place / "a"]
+    shutil.copytree(kept, place / "count")
+    kinds = calls.run([*command[:3], place / "count", place / "a"]).kinds
+    second = [number for number, kind in enumerate(kinds, 1) if kind == "rename"][1]
+    hold(calls.run(command, second, "kill").status == -9, "the run wasn't killed")
+    for path in kept.glob(f"a{STAGED}.*"):
+        path.unlink() if path.name not in (f"a{STAGED}.x0", f"a{STAGED}.y1") else None
+    hold((kept / "a.x0").samefile(kept / f"a{STAGED}.x0"), "x0 hasn't its name")
+    (kept / "a.y1").unlink()
+    before = lasting(kept)
+    _, err = run(*command[1:], status=1)
+    hold("too little of it is there to replace a file" in err and lasting(kept) == before, err)
+
+
+def test_fragments_beside_no_description(place, choose):
+    """Where disks come back with an old file, fragments beside no description are left out if the others give the file, and else are read;
+    none of these is called damaged."""
+    old, new = choose.randbytes(3_000), choose.randbytes(3_000)
+    said = "a: read without the fragments beside which another file is described"
+    for undescribed in ((3, 5), (0, 1)):
+        store = place / f"store-{undescribed[0]}"
+        run("encode", "--make-folders", *DISKS, store, source(place, "a", old), status=0)
+        for one in (0, 1, 2):
+            (store / f"disk{one}").rename(place / f"disk{one}")
+            (store / f"disk{one}").mkdir()
+        run("encode", "--replace", *DISKS, store, source(place, "a", new), status=0)
+        for one in (0, 1, 2):
+            shutil.rmtree(store / f"disk{one}")
+            (place / f"disk{one}").rename(store / f"disk{one}")
+        (store / "SHA256SUMS").unlink()
+        for one in undescribed:
+            (store / f"disk{one}/a.file").unlink()
+        got, err = run("read", *DISKS, store, "a", status=0)
+        hold(got == new and said in err and "damaged" not in err, f"{undescribed}: {err}")
+
+
+def test_replace_what_is_as_long_as_a_description(place, choose):
+    """What has the name of a description, and as many bytes as one can have, is replaced; with one more it stays."""
+    store, data = place / "store", choose.randbytes(900)
+    run("encode", store, source(place, "a", data), status=0)
+    # 20 digits, 64 digits, the name of a code, two spaces and a line feed.
+    for many, status in ((93, 0), (94, 1)):
+        (store / "a.file.copy").write_bytes(bytes(many))
+        _, err = run("encode", "--replace", store, place / "a", status=status)
+        has = (store / "a.file.copy").read_bytes()
+        hold(has == (bytes(many) if status else description_of(data)), f"{many}: {err}")
+
+
+def test_digests_of_what_stays(place, choose):
+    """What a failed run that replaces a file can't take away again keeps its digests. Of both failures the first is said first, and of
+    several things that can't be taken away the first is named."""
+    calls, first, store = Calls(place, forks=True), place / "first", place / "store"
+    run("encode", "--make-folders", *DISKS, first, source(place, "a", choose.randbytes(900)), status=0)
+    source(place, "a", choose.randbytes(1_801))
+    command = [PROGRAM, "encode", "--replace", *DISKS, store, place / "a"]
+    shutil.copytree(first, store)
+    kinds = calls.run(command).kinds
+    links = [number for number, kind in enumerate(kinds, 1) if kind == "link"]
+    # The last description has its name then, and what it was made under can't be taken away.
+    number = kinds.index("unlink", links[19]) + 1
+    shutil.rmtree(store)
+    shutil.copytree(first, store)
+    ended = calls.run(command, number, 5, "kind")
+    lines = [line for line in ended.err.splitlines() if "Input/output error" in line]
+    hold(ended.status == 3 and len(lines) == 2, ended.text())
+    hold([f"disk{it}/a{STAGED}.file" in line for it, line in zip((9, 0), lines)] == [True, True], ended.text())
+    files = {name: data for name, data in lasting(store).items() if name not in ("SHA256SUMS", f"disk9/a{STAGED}.file")}
+    hold(len([name for name in files if STAGED in name]) == 19, f"{sorted(files)}")
+    wanting = [name for name, data in files.items() if sums_of(store).get(name) != hashlib.sha256(data).hexdigest()]
+    hold(not wanting, f"without their digests: {wanting}")
+
+
+def test_encode_again_beside_a_description_of_before(place, choose):
+    """A file whose only description is in the store's own folder is encoded again: the copies are made, and that one stays."""
+    store, data = place / "store", choose.randbytes(900)
+    run("encode", "--make-folders", *DISKS, store, source(place, "a", data), status=0)
+    whole = there(store)
+    for path in store.glob("disk*/a.file"):
+        path.unlink()
+    (store / "a.file").write_bytes(description_of(data))
+    run("encode", *DISKS, store, place / "a", status=0)
+    hold(there(store) == {**whole, "a.file": description_of(data)}, f"{sorted(set(there(store)) ^ set(whole))}")
+
+
+def test_standard_input_that_stays(place, choose):
+    """What standard input was kept in and can't be taken away is said, with the status of a device."""
+    store, calls = place / "store", Calls(place, forks=True)
+    command, tried = [PROGRAM, "encode", store, "-", "--as", "empty"], 0
+    run(*command[1:], status=0)
+    for number, kind in enumerate(calls.run(command).kinds, 1):
+        if kind == "unlink":
+            for path in store.glob(".rebuild-store-*"):
+                path.unlink()
+            ended = calls.run(command, number, 5)
+            hold(ended.status == 3 and "Input/output error" in ended.err, f"call {number}: {ended.text()}")
+            tried += 1
+    # Each fragment and each description that is there already was made once more, and the last call is that of standard input's file.
+    hold(tried == len(PLACES) + 3, f"{tried} calls")
+
+
+def test_remove_what_is_named_like_descriptions(place, choose):
+    """A stripe whose fragments have names of descriptions, and are none, is taken out by its name, also if something of it is lost."""
+    store = place / "store"
+    run("encode", "--make-folders", *DISKS, store, source(place, "a", choose.randbytes(1_200)), status=0)
+    whole = there(store)
+    for number in range(10):
+        shutil.copyfile(store / f"disk{number}/a", store / f"disk{number}/more.file")
+    (store / "disk5/more.file").unlink()
+    (store / "disk3/more.file").unlink()
+    (store / "disk3/more.file").mkdir()
+    _, err = run("remove", *CODED, store, "more.file", status=1)
+    hold("disk3/more.file: is no regular file, and isn't removed" in err and there(store) == whole, f"{err}: {sorted(there(store))}")
+    (store / "disk3/more.file").rmdir()
+    for number in (0, 1, 2, 3, 4, 6):
+        shutil.copyfile(store / f"disk{number}/a", store / f"disk{number}/more.file")
+    run("remove", *CODED, store, "more.file", status=0)
+    hold(there(store) == whole, f"{sorted(there(store))}")
+
+
 def tried(place, name):
     """Runs a test, and gives how many checks passed, why it failed, and why it was left out."""
     global passed

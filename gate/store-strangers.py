@@ -2693,6 +2693,25 @@ def lay_zeros(store, names, size):
                 file.truncate(size)
 
 
+def test_name_that_is_given_beside_another_run(place, choose):
+    """A run over the folder of one disk takes nothing away that a run which replaces a file of the store is about to give its name."""
+    calls, store, source, other = Calls(place, forks=True), place / "giving", place / "note", place / "other"
+    source.write_bytes(choose.randbytes(3_000))
+    other.write_bytes(choose.randbytes(300))
+    run("encode", "--make-folders", store, source, *DISKS, status=0)
+    source.write_bytes(choose.randbytes(2_000))
+    shutil.copytree(store, place / "count")
+    number = calls.run([PROGRAM, "encode", "--replace", place / "count", source, *DISKS]).kinds.index("rename") + 1
+    with waiting(calls, place, [PROGRAM, "encode", "--replace", store, source, *DISKS], number) as go_on:
+        # What is to get a name is there by a temporary one.
+        hold([*store.glob("disk0/.rebuild-store-*")] != [], f"{sorted(below(store))}")
+        run("encode", store / "disk0", other, status=0)
+        status, said = go_on()
+    hold(status == 0, f"status {status}: {said}")
+    ended = subprocess.run([PROGRAM, "read", store, "note", *DISKS[2:]], capture_output=True)
+    hold(ended.stdout == source.read_bytes(), ended.stderr.decode())
+
+
 def test_line_on_a_terminal(place, choose):
     """A repair and a scrub show how far they are on a line that is written anew in its place, and that ends if the run is killed."""
     store = place / "zeros"
