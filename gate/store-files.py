@@ -2627,6 +2627,27 @@ def test_remove_what_is_named_like_descriptions(place, choose):
     hold(there(store) == whole, f"{sorted(there(store))}")
 
 
+def test_replace_through_a_linked_folder(place, choose):
+    """No file is replaced through a link in place of its folder, nor is what was begun ended through one, unless links are followed."""
+    names, outside = ["--names", "{stripe}/{place}"], place / "outside"
+    for is_begun in (False, True):
+        if is_begun:
+            store, _, new = begun_replacement(place, choose, *names)
+        else:
+            store, new = place / "store", choose.randbytes(900)
+            run("encode", "--make-folders", *names, store, source(place, "a", choose.randbytes(2_000)), status=0)
+        (store / "a").rename(outside)
+        (store / "a").symlink_to(outside)
+        before = there(outside), lasting(store)
+        _, err = run("encode", "--replace", *names, store, source(place, "a", new), status=3)
+        hold("its folder is a link, and links aren't followed" in err, f"{is_begun}: {err}")
+        hold((there(outside), lasting(store)) == before, f"{is_begun}: {sorted(there(outside))}")
+        run("encode", "--replace", "--follow-links", *names, store, place / "a", status=0)
+        hold(run("read", "--follow-links", *names, store, "a", status=0)[0] == new, f"{is_begun}: not the new file")
+        shutil.rmtree(store)
+        shutil.rmtree(outside)
+
+
 def tried(place, name):
     """Runs a test, and gives how many checks passed, why it failed, and why it was left out."""
     global passed

@@ -11,7 +11,7 @@ use std::alloc::{AllocError, Global};
 use std::fs;
 use std::io::ErrorKind;
 use store_faults::{FileFault, device};
-use store_files::Target;
+use store_files::{Target, refuse_linked};
 use store_folder::{MOST_BYTES, SUMS_NAME, description_names, is_absent};
 use store_names::is_free;
 
@@ -77,12 +77,15 @@ fn refuse_long_names(
     Ok(())
 }
 
-/// Refuses to replace a stripe's files if something else has the name of one: what is no file, or what is too long for a description.
+/// Refuses to replace a stripe's files if something else has the name of one: what is no file, or what is too long for a description; and
+/// if one is in a folder that is a link, unless links are followed.
 pub(crate) fn refuse_irregular(
     rt: &HostRuntime,
     target: &Target<'_>,
     files: &StripeFiles,
 ) -> Result<(), FileFault> {
+    refuse_linked(rt, target, files.fragments.as_slice())?;
+    refuse_linked(rt, target, files.descriptions.as_slice())?;
     refuse_others_than(rt, target, files.fragments.as_slice(), u64::MAX)?;
     refuse_others_than(rt, target, files.descriptions.as_slice(), MOST_BYTES)
 }
