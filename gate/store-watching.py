@@ -6,12 +6,14 @@ what is read in a second, and parts that look at nothing but their part.
 
 Stores are made by an independent encoder, and each expected number is worked out here."""
 
+import fcntl
 import hashlib
 import json
 import os
 import pathlib
 import random
 import re
+import resource
 import selectors
 import signal
 import stat
@@ -552,6 +554,60 @@ def test_folder_by_folder(place, choose):
         whole = {path for path in all_of_it if path.parent.name in folders[: number + 1]}
         check(whole <= set(there) and all(there[path] == all_of_it[path] for path in there), f"after {folder}")
     check(set(there) == set(all_of_it), "the store isn't whole")
+
+
+def test_counters_that_a_refused_run_leaves(place, choose):
+    """A run whose store is refused leaves the counters of a run that works there, a file of the store that begins as they do, and those of
+    another command or another store."""
+    store, file = place / "s", place / "counters"
+    make(store, choose, ["a"], 10)
+
+    def begun(command, of):
+        labels = f'{{command="{command}",store="{of}"}}'
+        return f"rebuild_store_units{labels} 1\nrebuild_store_units_done{labels} 0\n"
+
+    own = begun("repair", store)
+    file.write_text(own)
+    held = os.open(store, os.O_RDONLY)
+    fcntl.flock(held, fcntl.LOCK_EX)
+    _, said = run("repair", "--progress", file, store, status=1)
+    check("another run works in this store" in said and file.read_text() == own, f"{said}{file.read_text()}")
+    os.close(held)
+    (store / "c.p1").write_text(own)
+    _, said = run("repair", "--progress", store / "c.p1", store, status=2)
+    check("is a file of the store" in said and (store / "c.p1").read_text() == own, f"{said}{(store / 'c.p1').read_text()}")
+    store.rename(place / "away")
+    for text in (begun("scrub", store), begun("repair", place / "other"), begun("repair", f"{store}s")):
+        file.write_text(text)
+        run("repair", "--progress", file, store, status=3)
+        check(file.read_text() == text, f"counters of others were written over: {text}{file.read_text()}")
+    file.write_text(own)
+    run("repair", "--progress", file, store, status=3)
+    check(counters(file.read_text(), "repair", str(store))["status"] == 3, file.read_text())
+
+
+def test_counters_of_a_run_over_the_limit(place, choose):
+    """A repair that is refused, since files may not get as long as what is lost, says that status in its counters."""
+    store, file = place / "s", place / "counters"
+    make(store, choose, ["a"], 5_000)
+
+    def limited():
+        resource.setrlimit(resource.RLIMIT_FSIZE, (4_000, 4_000))
+
+    _, said = run("repair", "--progress", file, store, status=1, preexec_fn=limited)
+    found = counters(file.read_text(), "repair", str(store))
+    check("ulimit -f" in said and list(found) == ENDED and (found["status"], found["units_done"]) == (1, 0), f"{said}{found}")
+
+
+def test_rights_of_what_is_made(place, choose):
+    """A report and counters that are made have the rights that their user's mask leaves, so that those who watch may read them."""
+    store = place / "s"
+    make(store, choose, ["a"], 10)
+    for mask, mode in ((0o022, 0o644), (0o027, 0o640)):
+        files = [place / f"{name}-{mode:o}" for name in ("report", "counters")]
+        run("scrub", "--report", files[0], "--progress", files[1], store, status=1, umask=mask)
+        modes = [stat.S_IMODE(path.stat().st_mode) for path in files]
+        check(modes == [mode, mode], f"a mask of {mask:o} leaves {[f'{it:o}' for it in modes]}")
 
 
 def main():
