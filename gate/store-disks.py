@@ -246,6 +246,38 @@ def test_unmounted_behind_links(place, choose):
     hold(not [*(place / "behind3").iterdir()], f"something was made where no disk is mounted: {said}")
 
 
+def test_missing_beside_mounted(place, choose):
+    """A disk whose folder isn't there, or is a file, is missing, and none that isn't mounted, as one of the (12,2,2) code's last is."""
+    words, places = ["--code", "12-2-2", "--names", "all/{place}/{stripe}"], [*stripe("12-2-2", 1, choose)]
+    store, source = place / "some-missing", place / "source"
+    (store / "all").mkdir(parents=True)
+    source.write_bytes(choose.randbytes(5_000))
+    for name in places:
+        mount(store / "all" / name, 512 * KIB)
+        (store / "all" / name).chmod(0o755)
+    try:
+        run("encode", *words, store, source, status=0)
+        for name in ("x2", "y0", "x5"):
+            system("umount", store / "all" / name)
+        (store / "all/x2").rmdir()
+        (store / "all/y0").rmdir()
+        (store / "all/y0").write_bytes(b"")
+        for words_of_it, status in ((["scrub"], 1), (["repair", "--dry-run"], 3), (["repair"], 3)):
+            said = run(*words_of_it, *words, store, status=status)
+            for name, why in (("x2", "No such file or directory"), ("y0", "Not a directory")):
+                hold_named(said, f"{store}/all/{name}: ", f"{why}: what should be in it counts as lost")
+            unmounted = [line for line in said.splitlines() if "no disk is mounted there" in line]
+            hold(len(unmounted) == 1 and unmounted[0].startswith(f"rebuild-store: {store}/all/x5: "), f"{words_of_it}: {unmounted}")
+        hold(not [*(store / "all/x5").iterdir()], f"something was made where no disk is mounted: {said}")
+        said = run("encode", *words, store, source, status=1)
+        hold_named(said, f"{store}/all/x5: ", "no disk is mounted there, as are at most others: mount it, or give --allow-unmounted")
+        said = run("encode", "--allow-unmounted", *words, store, source, status=3)
+        hold("no disk is mounted" not in said and not (store / "all/x2").exists(), said)
+    finally:
+        for name in places:
+            subprocess.run(["umount", store / "all" / name], capture_output=True)
+
+
 def is_root():
     """Whether this is root of the whole machine, and not of a namespace of users alone."""
     return os.geteuid() == 0 and pathlib.Path("/proc/self/uid_map").read_text().split()[:2] == ["0", "0"]
@@ -358,7 +390,7 @@ def main(program):
     PROGRAM = pathlib.Path(program or PROGRAM).resolve()
     choose = random.Random(2026)
     tests = (test_full, test_most_lost_first, test_read_only, test_links, test_long_names, test_leftover_folder, test_unmounted,
-             test_unmounted_behind_links, test_other_users, test_owner, test_cut)
+             test_unmounted_behind_links, test_missing_beside_mounted, test_other_users, test_owner, test_cut)
     with tempfile.TemporaryDirectory() as scratch:
         place = pathlib.Path(scratch)
         place.chmod(0o755)
