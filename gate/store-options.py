@@ -399,12 +399,54 @@ def test_rows_of_a_stripe(folder, code, choose):
         check(f'\na,,left,"{why}"\n' in report.read_text(), report.read_text())
 
 
+def test_leftovers_of_parts_behind_links(folder, code, choose):
+    """A run of a part takes away what runs of that part have left in folders that links lead to, and nothing of others; a folder that isn't
+    there has nothing, and isn't said."""
+    stripes = stripes_of(code, choose, ["a"])
+    store, outside = folder / "store", folder / "outside"
+    lay(store, stripes, plain)
+    outside.mkdir()
+    (store / "a.x0").rename(outside / "x0")
+    (store / "a.x0").symlink_to(outside / "x0")
+    own = outside / ".rebuild-store-1-1-0123456789abcdef"
+    names = (".rebuild-store-0123456789abcdef", ".rebuild-store-2-3-0123456789abcdef", ".rebuild-store-part-2-of-3")
+    others = [outside / name for name in names]
+    for path in (own, *others):
+        path.write_bytes(b"" if "part" in path.name else b"half")
+    words = ["repair", store, "--code", code, "--follow-links"]
+    _, errors = run(*words, "--part", "1/1", status=0)
+    check(errors == f"rebuild-store: {own}: was left by a run that was killed, and is removed\n", errors)
+    check(sorted(outside.iterdir()) == sorted([outside / "x0", *others]), f"{sorted(outside.iterdir())}")
+    _, errors = run(*words, status=0)
+    check(errors.count("was left by a run that was killed, and is removed") == len(others), errors)
+    check([*outside.iterdir()] == [outside / "x0"], f"{sorted(outside.iterdir())}")
+    (folder / "file").write_bytes(b"")
+    for name, said in (("gone", "put in its place: No such file or directory"), ("file", "looked at: Not a directory")):
+        (store / "a.y0").unlink()
+        (store / "a.y0").symlink_to(folder / name / "y0")
+        _, errors = run(*words, status=3)
+        check(f"a.y0: can't be {said}\n" in errors and str(folder / name) not in errors, errors)
+
+
+def test_words_of_a_store_without_fragments(folder, code, choose):
+    """A folder in which no file has the name of a fragment is refused with the pattern as it was given."""
+    lay(folder, stripes_of(code, choose, ["a"]), plain)
+    for names, pattern in (([], "{stripe}.{place}"), (["--names", "{place}-{stripe}"], "{place}-{stripe}")):
+        if not names:
+            for path in folder.iterdir():
+                path.rename(path.with_name(f"b{path.name.replace('.', '-')}"))
+        for command in ("repair", "scrub", "lost", "list"):
+            _, errors = run(command, folder, "--code", code, *names, status=1)
+            said = f"rebuild-store: {folder}: no file is named as a fragment, {pattern}: is this the store?\n"
+            check(errors == said, f"{command}: {errors}")
+
+
 def main():
     choose = random.Random(26)
     for code in DATA:
         for test in (test_disks, test_place_first, test_stripes, test_parts, test_another_folder,
                      test_another_folder_of_disks, test_sums, test_requests, test_reports,
-                     test_rows_of_a_stripe):
+                     test_rows_of_a_stripe, test_leftovers_of_parts_behind_links, test_words_of_a_store_without_fragments):
             with tempfile.TemporaryDirectory() as scratch:
                 folder = pathlib.Path(scratch) / "store"
                 folder.mkdir()
