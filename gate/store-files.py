@@ -237,6 +237,26 @@ def test_verify_what_cannot_be_read(place, choose):
     hold(len(tried) == 4, tried)
 
 
+def test_read_what_cannot_be_read_beside_another_description(place, choose):
+    """That a fragment can't be read is what is said also where a copy of the description says another length, by which none is there."""
+    store, calls = place / "store", Calls(place, forks=True)
+    run("encode", store, source(place, "a", choose.randbytes(6_000)), status=0)
+    for name in ("x1", "x2", "y1", "p0"):
+        (store / f"a.{name}").unlink()
+    text, command = (store / "a.file").read_bytes(), [PROGRAM, "read", store, "a"]
+    for right, other in (("a.file", "a.file.copy"), ("a.file.copy", "a.file")):
+        (store / right).write_bytes(text)
+        (store / other).write_bytes(text.replace(b"6000 ", b"60000 ", 1))
+        hold(run(*command[1:], status=0)[0] == (place / "a").read_bytes(), f"{right}: not the file")
+        for number, kind in enumerate(calls.run(command).kinds, 1):
+            if kind == "read":
+                ended = calls.run(command, number, 5, rest="path")
+                if ended.paths == (str(store / "a.x0"),):
+                    break
+        hold(ended.paths == (str(store / "a.x0"),) and ended.status == 3, f"{right}: {ended.text()}")
+        hold(ended.err.endswith(f"rebuild-store: {store}/a.x0: Input/output error\n") and not ended.out, f"{right}: {ended.text()}")
+
+
 def test_read_to_a_file(place, choose):
     """A file that is read to has its name when it is whole; what is there keeps its rights, a FIFO and a link stay."""
     store, data = place / "store", choose.randbytes(100_001)
@@ -369,6 +389,23 @@ def test_read_to_another_name_of_a_fragment(place, choose):
     (store / "disk4/a").symlink_to(other)
     _, err = run("read", *DISKS, "--follow-links", store, "a", "-o", link, status=2)
     hold(f"{link}: leads to a file of the store" in err and there(store) | {"disk4/a": other.read_bytes()} == files, err)
+
+
+def test_read_to_another_name_of_a_wide_fragment(place, choose):
+    """The same of a file of the (12,2,2) code at the places that it alone has. No file is read to a folder below that of a disk either."""
+    names, store, link, other = ["--names", "{place}/{stripe}"], place / "store", place / "link", place / "other"
+    run("encode", "--make-folders", "--code", "12-2-2", *names, store, source(place, "a", choose.randbytes(3_000)), status=0)
+    (store / "x5/deep").mkdir()
+    files = there(store)
+    link.symlink_to(other.name)
+    for name in ("x3/a", "y5/a", "y4/a.file"):
+        os.link(store / name, other)
+        _, err = run("read", *names, store, "a", "-o", link, status=2)
+        hold(err == f"rebuild-store: {link}: leads to a file of the store\n" and there(store) == files, f"{name}: {err}")
+        other.unlink()
+    for path in (store / "x5/deep/new", store / "x5/new"):
+        _, err = run("read", *names, store, "a", "-o", path, status=2)
+        hold(err == f"rebuild-store: {path}: is in a folder of the store\n" and there(store) == files, f"{path}: {err}")
 
 
 def test_read_to_a_file_once(place, choose):
@@ -1043,6 +1080,18 @@ def test_replacement_without_memory(place, choose):
     with concurrent.futures.ThreadPoolExecutor(os.cpu_count()) as pool:
         ended = [*pool.map(one, range(1, one(0).allocations + 1))]
     hold({4} <= {ran.status for ran in ended}, f"runs ended with {({ran.status for ran in ended})}")
+
+
+def test_read_of_a_replacement_without_memory(place, choose):
+    """A run that is refused memory while it reads a file beside all of what is to replace it writes no byte of the old file."""
+    store, _, new = begun_replacement(place, choose)
+    library, ends = refusals.Library(place, forks=True), set()
+    command = [str(it) for it in (PROGRAM, "read", store, "a")]
+    for number in range(1, library.run(command).allocations + 1):
+        ran = library.run(command, refusal=refusals.Refusal(allocation=number))
+        hold(new.startswith(ran.out) and (ran.status == 4 or ran.status == 0 and ran.out == new), f"allocation {number}: {ran.text()}")
+        ends.add(ran.status)
+    hold(4 in ends, f"runs ended with {ends}")
 
 
 def lasting(store):
