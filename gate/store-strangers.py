@@ -2742,7 +2742,7 @@ def test_numbers_on_a_terminal(place, _choose):
     clock = {"LD_PRELOAD": str(library), "SLEPT_RECORD": str(record)}
     said, status = on_terminal("scrub", store, "--workers", 1, "--rate", "4M", slow=clock)
     lines = [[float(it) for it in line] for line in re.findall(r"  ([\d.]+)/100.0 MiB  (\d+) MiB/s  (\d+):(\d\d) left", said)]
-    hold(status == 0 and len(lines) > 100 and all(speed in (3, 4) for _, speed, _, _ in lines), f"status {status}: {said!r}")
+    hold(status == 0 and 100 < len(lines) <= 125 and all(speed in (3, 4) for _, speed, _, _ in lines), f"status {status}: {said!r}")
     hold(all(abs((100 - done) / 4 - 60 * minutes - seconds) <= 1.1 for done, _, minutes, seconds in lines), f"{lines}")
     lay_zeros(place / "long-zeros", ["s"], 2**34)
     said, status = on_terminal("scrub", place / "long-zeros", "--workers", 1, slow=slow_reads(place, 3), killed=True)
@@ -2784,7 +2784,9 @@ def test_line_within_a_file(place, choose):
     os.mkfifo(place / "fifo")
     reader = subprocess.Popen(["timeout", str(SECONDS), "cat", place / "fifo"], stdout=subprocess.DEVNULL)
     commands = [("encode", "files", "8.0", [store, file]), ("verify", "files", "8.0", [store]),
-                ("read", "files", "8.0", [store, "f", "-o", place / "read"]), ("read", "files", "8.0", [store, "f", "-o", place / "fifo"])]
+                ("read", "files", "8.0", [store, "f", "-o", place / "read"]), ("read", "files", "8.0", [store, "f", "-o", place / "fifo"]),
+                # The file that is there by now is replaced, which takes one reading too.
+                ("read", "files", "8.0", [store, "f", "-o", place / "read"])]
     for command, unit, all_of_it, words in commands:
         said, status = on_terminal(command, *words, slow=slow)
         seen = [float(it) for it in re.findall(line % (command, unit, re.escape(all_of_it)), said)]
@@ -2840,6 +2842,56 @@ def test_line_within_a_stripe(place, choose):
     seen = [float(it) for it in re.findall(line % ("repair", "fragments", r"6\.0", "given up"), said)]
     hold(status == 0 and seen == sorted(seen), f"status {status}: {said!r}")
     hold_even(seen, 6)
+
+
+def test_runs_beside_an_encoding(place, choose):
+    """While a run encodes into a store, or takes files out of it, no other run writes there, and others read there."""
+    calls, store, source = Calls(place, forks=True), place / "encoded-into", place / "encoded"
+    source.write_bytes(choose.randbytes(6_000))
+    encode, remove = ["encode", store, source], ["remove", store, source.name]
+    for words in (encode, remove):
+        run(*words, status=0)
+    for words, undo, kind in ((encode, remove, "link"), (remove, encode, "unlink")):
+        command = [PROGRAM, *words]
+        number = calls.run(command).kinds.index(kind) + 1
+        run(*undo, status=0)
+        with waiting(calls, place, command, number) as go_on:
+            for other in (encode, remove, ["repair", "--code", "6-2-2", store],
+                          ["repair", "--code", "6-2-2", "--part", "1/2", store]):
+                said = run(*other, status=1)
+                hold(said == f"rebuild-store: {store}: another run works in this store\n", f"{other[0]} beside {words[0]}: {said}")
+            hold("another run" not in run("scrub", "--code", "6-2-2", "-q", store, status=0 if kind == "unlink" else 1), words[0])
+            status, said = go_on()
+            hold(status == 0, f"{words[0]}: {status}: {said}")
+        hold((store / f"{source.name}.x0").exists() == (words[0] == "encode"), words[0])
+
+
+def test_findings_on_a_terminal(place, _choose):
+    """The line says how many fragments are damaged, and how many others aren't as they should be, or are given up."""
+    store, size, slow = place / "found", 2**17, slow_reads(place, 3)
+    lay_zeros(store, [f"s{number:02}" for number in range(16)], size)
+    (store / "s00.x0").write_bytes(b"!" + bytes(size - 1))
+    for name in ("s01.px", "s01.p0"):
+        (store / name).unlink()
+    said, status = on_terminal("scrub", store, "--workers", 1, slow=slow)
+    hold(status == 1 and " left  1 damaged, 2 lost\x1b" in said, f"status {status}: {said!r}")
+    for name in ("s01.px", "s01.p0"):
+        (store / name).mkdir()
+    said, status = on_terminal("repair", "--reads", "all", store, "--workers", 1, slow=slow)
+    hold(status == 1 and " left  1 damaged, 2 given up\x1b" in said, f"status {status}: {said!r}")
+
+
+def test_dry_run_on_a_terminal(place, _choose):
+    """A dry run shows no line, however long it takes to hold the fragments to their digests."""
+    store, size, names = place / "dry-zeros", 2**16, [f"s{number:02}" for number in range(20)]
+    lay_zeros(store, names, size)
+    (store / "SHA256SUMS").write_text("".join(f"{digest(bytes(size))}  {path.name}\n" for path in sorted(store.iterdir())))
+    for name in names:
+        (store / f"{name}.x0").unlink()
+    words = ["repair", "--reads", "all", store, "--workers", 1]
+    hold(on_terminal(*words, "--dry-run", slow=slow_reads(place, 4)) == ("", 1), "a dry run shows a line")
+    said, status = on_terminal(*words, slow=slow_reads(place, 4))
+    hold(status == 0 and "repair: " in said, f"status {status}: {said!r}")
 
 
 def tried(place, name):
