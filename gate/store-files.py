@@ -1075,6 +1075,7 @@ def test_replacement_without_memory(place, choose):
         shutil.rmtree(again)
         lost = [name for name, data in fragments.items() if data not in (left.get(name), left.get(name.replace(STAGED, "")))]
         hold(not lost, f"allocation {number}: {lost} are gone: {ran.text()}")
+        hold(is_for_memory(ran, 1, b"is there already"), f"allocation {number}: {ran.text()}")
         return ran
 
     with concurrent.futures.ThreadPoolExecutor(os.cpu_count()) as pool:
@@ -2663,6 +2664,41 @@ def test_standard_input_that_stays(place, choose):
             tried += 1
     # Each fragment and each description that is there already was made once more, and the last call is that of standard input's file.
     hold(tried == len(PLACES) + 3, f"{tried} calls")
+
+
+def is_for_memory(ran, status, said):
+    """Whether a run that was refused memory says that, or has ended with this status, and all that it says has these words."""
+    lines = [line for line in ran.err.splitlines() if b"was left by a run that was killed" not in line]
+    return b"out of memory" in ran.err if ran.status == 4 else ran.status == status and all(said in line for line in lines)
+
+
+def test_memory_that_is_refused_meanwhile(place, choose):
+    """A run that decides what is to be done with what was begun, or reads it, or takes it out, and is refused memory says that."""
+    library, (whole, _, _) = refusals.Library(place, forks=True), begun_replacement(place, choose)
+    lost, alone, few, again = (place / it for it in ("lost", "alone", "few", "again"))
+    for store in (lost, alone, few):
+        shutil.copytree(whole, store)
+    (lost / f"a{STAGED}.y1").unlink()
+    for path in alone.glob(f"a{STAGED}.*"):
+        path.unlink() if path.name != f"a{STAGED}.file" else None
+    for path in few.glob(f"a{STAGED}.??"):
+        path.unlink() if path.name != f"a{STAGED}.x0" else None
+    file, none = source(place, "a", choose.randbytes(900)), place / "none"
+
+    def one(store, command, given, number=0):
+        shutil.copytree(store, again)
+        ran = library.run([PROGRAM, command, again, given], refusal=refusals.Refusal(allocation=number))
+        shutil.rmtree(again)
+        return ran
+
+    for store, command, given, status, said in ((alone, "encode", file, 1, b"is there already"), (few, "encode", file, 1, b"too little"),
+                                                (few, "read", "a", 0, b"none"), (lost, "read", "a", 0, b"left out"),
+                                                (lost, "remove", "a", 0, b"none")):
+        # Until then it does what it does for any file.
+        begin, end = one(store, command, none.name if given == "a" else none).allocations, one(store, command, given).allocations
+        ended = [one(store, command, given, number) for number in range(begin - 10, end + 1)]
+        odd = [ran.text() for ran in ended if not is_for_memory(ran, status, said)]
+        hold(not odd and 4 in {ran.status for ran in ended}, f"{store.name}, {command}: {len(odd)} of {len(ended)} runs: {odd[:2]}")
 
 
 def test_remove_what_is_named_like_descriptions(place, choose):

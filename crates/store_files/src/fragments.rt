@@ -126,8 +126,18 @@ pub(crate) fn gives_file(
     let file_bytes = sought.described.length as usize;
     match read_file(rt.alloc(), &survivors, file_bytes, &mut counted) {
         Ok(()) => Ok(counted.file.finish(&sought.described.digest).1),
-        Err(MendFault::OutOfMemory) => Err(FileFault::OutOfMemory),
+        Err(fault) if is_for_memory(&fault) => Err(FileFault::OutOfMemory),
         Err(_) => Ok(false),
+    }
+}
+
+/// Whether a file couldn't be had since memory was refused, also while a fragment was read or what it gives was digested.
+fn is_for_memory(fault: &MendFault) -> bool {
+    match fault {
+        MendFault::OutOfMemory => true,
+        MendFault::Several { .. } => false,
+        MendFault::Unread { error, .. } => error.kind() == ErrorKind::OutOfMemory,
+        MendFault::Unwritten { error, .. } => error.kind() == ErrorKind::OutOfMemory,
     }
 }
 
