@@ -376,6 +376,21 @@ def test_cut(place, choose):
     hold(there != wanted, "a copy of a disk without any sync holds everything too, so this trial shows nothing")
 
 
+def test_disks_alike(place, choose):
+    """What has the numbers of a file and of a folder of the store on another disk is none of the store's: a report may be written there."""
+    one, other = place / "one", place / "other"
+    for disk in (one, other):
+        mount(disk, 512 * KIB)
+        disk.chmod(0o755)
+    report = other / "s.x0"
+    report.write_bytes(b"older")
+    lay(one, {"s": stripe("6-2-2", 50, choose)})
+    if (one.stat().st_ino, (one / "s.x0").stat().st_ino) != (other.stat().st_ino, report.stat().st_ino):
+        raise Skipped("files on two disks have other numbers here")
+    run("scrub", one, "--report", report, status=0)
+    hold(report.read_text() == "stripe,place,outcome,detail\n", report.read_text())
+
+
 def clear(place):
     """Takes away the disks of a trial, and lets its folders be removed."""
     for disk in place.iterdir():
@@ -391,6 +406,7 @@ def main(program):
     choose = random.Random(2026)
     tests = (test_full, test_most_lost_first, test_read_only, test_links, test_long_names, test_leftover_folder, test_unmounted,
              test_unmounted_behind_links, test_missing_beside_mounted, test_other_users, test_owner, test_cut)
+             test_unmounted_behind_links, test_other_users, test_owner, test_cut, test_disks_alike)
     with tempfile.TemporaryDirectory() as scratch:
         place = pathlib.Path(scratch)
         place.chmod(0o755)

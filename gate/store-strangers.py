@@ -2892,6 +2892,567 @@ def test_dry_run_on_a_terminal(place, _choose):
     hold(on_terminal(*words, "--dry-run", slow=slow_reads(place, 4)) == ("", 1), "a dry run shows a line")
     said, status = on_terminal(*words, slow=slow_reads(place, 4))
     hold(status == 0 and "repair: " in said, f"status {status}: {said!r}")
+def hold_locked(folder):
+    """Each file in a folder that has a temporary name is locked, and by no lock of this process. Gives how many there are."""
+    unfinished = [path for path in folder.iterdir() if path.name.startswith(".rebuild-store-")]
+    for path in unfinished:
+        with open(path, "rb") as file:
+            try:
+                fcntl.flock(file, fcntl.LOCK_EX | fcntl.LOCK_NB)
+            except BlockingIOError:
+                continue
+        raise Fault(f"{path.name} isn't locked")
+    return len(unfinished)
+
+
+def test_locks_of_unfinished_files(place, choose):
+    """A new file is locked until it has lost its temporary name, also where that is a second one of a file which replaces another, so that
+    no run takes it for one that was left."""
+    calls, whole, source, store = Calls(place, forks=True), place / "whole", place / "file", place / "unfinished"
+    whole.mkdir()
+    source.write_bytes(choose.randbytes(900))
+    run("encode", whole, source, status=0)
+    source.write_bytes(choose.randbytes(1_900))
+    flip = bytes(255 - byte for byte in (whole / "file.y1").read_bytes())
+    trials = [(["repair", store, "--workers", "1"], ("write", "sync", "link", "unlink")),
+              (["repair", store, "--workers", "1", "--replace-damaged"], ("write", "sync", "link", "rename")),
+              (["encode", "--replace", store, source], ("link", "rename"))]
+    for words, kinds in trials:
+        def anew():
+            shutil.rmtree(store, ignore_errors=True)
+            shutil.copytree(whole, store)
+            if words[0] == "repair":
+                (store / "file.x1").unlink()
+            if "--replace-damaged" in words:
+                (store / "file.y1").write_bytes(flip)
+            return [PROGRAM, *words]
+
+        made = calls.run(anew()).kinds
+        for kind in kinds:
+            numbers = [number for number, it in enumerate(made, 1) if it == kind]
+            seen = 0
+            for number in {numbers[0], numbers[-1]}:
+                with waiting(calls, place, anew(), number) as go_on:
+                    seen += hold_locked(store)
+                    status, said = go_on()
+                    hold(status == 0, f"{words}, {kind}: status {status}: {said}")
+            hold(seen > 0, f"{words}: no file has a temporary name where one is to {kind}")
+
+
+def test_new_file_that_another_locks(place, choose):
+    """A new file that somebody else locks before its run does is left to them, and another one is made."""
+    store = place / "locked-by-another"
+    files = lay(store, choose)
+    calls, command = Calls(place, forks=True), [PROGRAM, "repair", store, "--workers", "1"]
+    (store / "s.x1").unlink()
+    kinds = calls.run(command).kinds
+    (store / "s.x1").unlink()
+    with waiting(calls, place, command, len(kinds) - kinds[::-1].index("lock")) as go_on:
+        taken, = store.glob(".rebuild-store-*")
+        with open(taken, "rb") as held:
+            fcntl.flock(held, fcntl.LOCK_EX)
+            status, said = go_on()
+    hold(status == 0 and there(store) == {**files, taken.name: b""}, f"status {status}: {sorted(there(store))}: {said}")
+
+
+def test_temporary_names_that_are_taken(place, choose):
+    """Where something has the name that a new file was to get, another is tried; where all that are tried are taken, that is said."""
+    store, source = place / "taken", place / "file"
+    files = lay(store, choose)
+    source.write_bytes(b"some text")
+    run("encode", store, source, status=0)
+    files = there(store)
+    calls, command = Calls(place, forks=True), [PROGRAM, "repair", store, "--workers", "1"]
+    for lost in ("s.x0", "file.file"):
+        (store / lost).unlink()
+        number = calls.run(command).kinds.index("create") + 1
+        hold(there(store) == files, f"{lost} didn't come back")
+        (store / lost).unlink()
+        ended = calls.run(command, number, errno.EEXIST)
+        hold(ended.status == 0 and there(store) == files, f"{lost}: {sorted(there(store))}: {ended.text()}")
+        (store / lost).unlink()
+        ended = calls.run(command, number, errno.EEXIST, rest="kind")
+        hold(ended.status == 3 and f"{lost}: can't be put in its place: " in ended.err and not (store / lost).exists(), ended.text())
+        run(*command[1:], status=0)
+    for number, kind in enumerate(calls.run([PROGRAM, "encode", place / "other", source]).kinds, 1):
+        if kind == "create":
+            shutil.rmtree(place / "other")
+            ended = calls.run([PROGRAM, "encode", place / "other", source], number, errno.EEXIST)
+            hold(ended.kind != "create" or ended.status == 0 and len(there(place / "other")) == 13, f"call {number}: {ended.text()}")
+
+
+def test_same_fragment_that_comes_meanwhile(place, choose):
+    """A file with the same bytes that comes under a lost fragment's name meanwhile, as one that another run has made, is the fragment. A
+    link that leads to such a file isn't, nor is a file that goes on after them: they stay, and are said."""
+    store, other = place / "same", place / "same-other"
+    files = lay(store, choose)
+    other.write_bytes(files["s.x1"])
+    calls, command = Calls(place, forks=True), [PROGRAM, "repair", store, "--workers", "1"]
+    (store / "s.x1").unlink()
+    number = calls.run(command).kinds.index("link") + 1
+    for kind in ("file", "link", "longer"):
+        (store / "s.x1").unlink()
+        with waiting(calls, place, command, number) as go_on:
+            if kind == "link":
+                (store / "s.x1").symlink_to(other)
+            else:
+                (store / "s.x1").write_bytes(files["s.x1"] + b"more" * (kind == "longer"))
+            status, said = go_on()
+        if kind == "file":
+            hold(status == 0 and "repaired 1 fragment, 600 bytes" in said, f"status {status}: {said}")
+        else:
+            hold(status == 1 and "s.x1: has come meanwhile, and stays as it is\n" in said, f"{kind}: status {status}: {said}")
+            hold((store / "s.x1").is_symlink() == (kind == "link"), f"a {kind} was replaced")
+        hold(sorted(path.name for path in store.iterdir()) == sorted(files), f"{kind}: {sorted(store.iterdir())}")
+
+
+def test_what_is_not_replaced_leaves_nothing(place, choose):
+    """What was rebuilt of a fragment that isn't replaced, since one is kept beside it, is taken away."""
+    store = place / "not-replaced"
+    files = lay(store, choose)
+    (store / "s.x1").write_bytes(bytes(255 - byte for byte in files["s.x1"]))
+    (store / "s.x1.damaged").write_bytes(b"kept")
+    before = there(store)
+    said = run("repair", "--code", "6-2-2", "--replace-damaged", store, status=1)
+    hold("s.x1: isn't replaced: a fragment that was replaced before is kept beside it\n" in said, said)
+    hold(there(store) == before, f"left {sorted(there(store).keys() - before.keys())}")
+
+
+def test_failed_write_before_a_contradiction(place, choose):
+    """Of a fragment that couldn't be written, and of whose stripe the survivors then turn out to contradict each other, nothing is left."""
+    store = place / "failed-write"
+    files = lay(store, choose, length=140_000)
+    (store / "s.x1").write_bytes(files["s.x1"][:-1] + bytes([files["s.x1"][-1] ^ 1]))
+    (store / "s.x2").unlink()
+    before = there(store)
+    calls = Calls(place, forks=True)
+    for words in ([], ["--reads", "all"]):
+        command = [PROGRAM, "repair", store, "--code", "6-2-2", "--workers", "1", *words]
+        number = calls.run(command).kinds.index("write") + 1
+        ended = calls.run(command, number, errno.ENOSPC)
+        hold(ended.status == 1 and "s: contradiction: one of these is damaged" in ended.err, ended.text())
+        hold(there(store) == before, f"left {sorted(there(store).keys() - before.keys())}")
+
+
+def test_fragment_that_is_cut_while_it_is_read(place, choose):
+    """A fragment that is cut while it is read has changed, and isn't one that can't be read."""
+    calls, store = Calls(place, forks=True), place / "cut"
+    files = lay(store, choose)
+    command = [PROGRAM, "scrub", store, "--workers", "1"]
+    last = max(number for number, kind in enumerate(calls.run(command).kinds, 1) if kind == "read")
+    with waiting(calls, place, command, last) as go_on:
+        for name in files:
+            os.truncate(store / name, 300)
+        status, said = go_on()
+    hold(status == 1 and "changed meanwhile: " in said and "can't be read" not in said, f"status {status}: {said}")
+
+
+def test_folders_are_synced_once(place, choose):
+    """The names that a stripe's fragments get are written to the disk once for each folder, and of each folder of which that fails it is
+    said."""
+    calls, lost = Calls(place, forks=True), (1, 4, 7)
+    store, disks = place / "synced-once", place / "synced-disks"
+    lay(store, choose)
+    lay_disks(disks, choose, names=("a",))
+    for folder, words, many in ((store, [], 1), (disks, DISKS, 3)):
+        paths = [folder / f"s.{it}" for it in ("x1", "y1", "p1")] if folder == store else [folder / f"disk{it}/a" for it in lost]
+        command = [PROGRAM, "repair", "--workers", "1", *words, folder]
+
+        def lose():
+            for path in paths:
+                path.unlink(missing_ok=True)
+
+        lose()
+        synced = [number for number, kind in enumerate(calls.run(command).kinds, 1) if kind == "sync"]
+        hold(len(synced) == 3 + many, f"three fragments in {many} folders are written to the disk by {len(synced)} calls")
+        lose()
+        ended = calls.run(command, synced[3], errno.EIO, rest="kind")
+        said = sorted(line for line in ended.err.splitlines() if line.endswith(": Input/output error"))
+        name = "s" if folder == store else "a"
+        wanted = {f"{name}: was left over, or isn't known to be on the disk: {path.parent}: Input/output error" for path in paths}
+        hold(ended.status == 3 and said == sorted(wanted), ended.text())
+
+
+def test_lock_whose_text_cannot_be_read(place, choose):
+    """What has the name of a lock and can't be read stays, and is said, with the status of a device."""
+    calls, store = Calls(place, forks=True), place / "unread-lock"
+    files = lay(store, choose)
+    lock = store / LOCK_OF_PART
+    command, tried = [PROGRAM, "repair", store, "--workers", "1"], 0
+
+    def begun(*how):
+        lock.write_text("4194304@alpha\n")
+        return calls.run(command, *how)
+
+    for number, kind in enumerate(begun().kinds, 1):
+        if kind == "read":
+            ended = begun(number, errno.EIO)
+            if ended.paths == (str(lock),):
+                tried += 1
+                said = f"rebuild-store: {lock}: is left over, and can't be removed: Input/output error\n"
+                hold(ended.status == 3 and said in ended.err and lock.read_text() == "4194304@alpha\n", ended.text())
+    hold(tried > 0, "no lock's text is read")
+    run(*command[1:], status=0)
+    # The longest text that a run writes: no process has a greater number, and no host a longer name.
+    for text in (f"4194304@{'h' * 64}\n", "\0" * 73):
+        lock.write_text(text)
+        said = run(*command[1:], status=0)
+        hold(there(store) == files, f"a lock with {text!r} in it stays: {said}")
+
+
+def test_leftovers_of_other_parts_where_links_lead(place, choose):
+    """A run of a part takes away what runs of the part have left in each folder where links lead, and nothing of another part's or of a run
+    of all."""
+    store, folders = place / "linked-parts", [place / "linked-parts-one", place / "linked-parts-two"]
+    names = [next(name for name in map(str, range(100)) if part_of(name, 2) == part) for part in (1, 2)]
+    lay(store, choose, names=names)
+    for folder, shard in zip(folders, ("x0", "y1")):
+        folder.mkdir()
+        for name in names:
+            (store / f"{name}.{shard}").rename(folder / f"{name}.{shard}")
+            (store / f"{name}.{shard}").symlink_to(folder / f"{name}.{shard}")
+    left = [".rebuild-store-1-2-0123456789abcdef", ".rebuild-store-2-2-0123456789abcdef", ".rebuild-store-1-3-0123456789abcdef", LEFTOVER]
+    for folder in folders:
+        for name in left:
+            (folder / name).write_bytes(b"half")
+    for words, stays in ((["--part", "1/2"], left[1:]), (["--part", "2/2"], left[2:]), ([], [])):
+        said = run("repair", "--follow-links", *words, store, status=0)
+        found = [[name for name in left if (folder / name).exists()] for folder in folders]
+        hold(found == [stays] * 2, f"{words}: {found} stay: {said}")
+
+
+def test_first_of_several(place, choose):
+    """Of links that aren't followed the first is named, with how many there are; and so is the first folder that others may write into, and
+    the first path that leads into the store."""
+    store, outside = place / "several", place / "several-outside"
+    lay_disks(store, choose)
+    outside.mkdir()
+    for number in (2, 5):
+        (store / f"disk{number}").rename(outside / f"disk{number}")
+        (store / f"disk{number}").symlink_to(outside / f"disk{number}")
+    said = run("scrub", store, *DISKS, status=1)
+    line = f"rebuild-store: {store}/disk2 and others are links, 2 in all, and aren't followed without --follow-links\n"
+    hold(line in said, said)
+    words = ["--progress", store / "disk1/d", "--report", store / "disk1/c"]
+    said = run("scrub", store, *DISKS, *words, status=2)
+    hold(f"{store}/disk1/c: is a file of the store, and no place for a report\n" in said, said)
+    if is_root():
+        for number in (3, 7):
+            (store / f"disk{number}").chmod(0o777)
+        for first in (store / "disk3", store):
+            said = run("repair", store, *DISKS, status=2)
+            hold(f"{first}: user 0 or others may write there" in said, said)
+            store.chmod(0o777)
+
+
+def test_root_in_folders_of_groups(place, choose):
+    """Root writes into a folder that its own group may write into, and into one of another group that may not."""
+    needs_root()
+    for group, mode, status in ((0, 0o775, 0), (OTHER, 0o755, 0), (OTHER, 0o775, 2), (0, 0o757, 2)):
+        store = place / f"group-{group}-{mode:o}"
+        files = lay(store, choose)
+        os.chown(store, 0, group)
+        store.chmod(mode)
+        (store / "s.x0").unlink()
+        said = run("repair", store, status=status)
+        hold((there(store) == files) == (status == 0), f"group {group}, mode {mode:o}: {said}")
+
+
+def test_folders_after_the_place(place, choose):
+    """A pattern may go into folders after the stripe and the place, too: what is there is found, repaired, and taken out."""
+    store, source, names = place / "after", place / "file", ["--names", "{stripe}/{place}/deep/data"]
+    source.write_bytes(choose.randbytes(900))
+    run("encode", "--make-folders", *names, store, source, status=0)
+    files = below(store)
+    hold("file/y1/deep/data" in files and len([name for name in files if name.endswith("/data")]) == 10, f"{sorted(files)}")
+    (store / "file/y1/deep/data").unlink()
+    hold("file/y1/deep/data: is lost\n" in run("scrub", *names, store, status=1), "a lost fragment isn't said")
+    said = run("repair", *names, store, status=0)
+    hold(below(store) == files and "repaired 1 fragment, 150 bytes (0 unchecked)" in said, said)
+    hold("whole 900 6-2-2 10/10 file\n" in run("list", *names, store, status=0), "it isn't listed")
+    run("remove", *names, store, "file", status=0)
+    hold(set(below(store)) <= {"SHA256SUMS"}, f"{sorted(below(store))} stay")
+
+
+def test_survivor_that_fails_is_said_once(place, choose):
+    """A survivor that can't be opened or read is said once, also where few are read first and then all, and in a dry run."""
+    calls, store = Calls(place, forks=True), place / "said-once"
+    files = lay(store, choose)
+    listed = "".join(f"{digest(data)}  {name}\n" for name, data in files.items())
+    said = "s.x1: can't be read: Input/output error\n"
+    for sums, words in ((None, []), (None, ["--reads", "few"]), (None, ["-n"]), (listed, []), (listed, ["-n", "--reads", "few"])):
+        (store / "SHA256SUMS").unlink(missing_ok=True)
+        if sums:
+            (store / "SHA256SUMS").write_text(sums)
+        command, tried = [PROGRAM, "repair", store, "--code", "6-2-2", "--workers", "1", *words], set()
+        (store / "s.x0").unlink(missing_ok=True)
+        for number, kind in enumerate(calls.run(command).kinds, 1):
+            if kind in ("open", "read") and kind not in tried:
+                (store / "s.x0").unlink(missing_ok=True)
+                ended = calls.run(command, number, errno.EIO, rest="path")
+                if ended.paths == (str(store / "s.x1"),):
+                    tried.add(kind)
+                    hold(ended.status == 3 and (ended.out + ended.err).count(said) == 1, f"{words}, {kind}: {ended.text()}")
+                    hold("-n" in words or (store / "s.x0").read_bytes() == files["s.x0"], f"{words}, {kind}: {ended.text()}")
+        hold("open" in tried, f"{words}: s.x1 isn't opened")
+
+
+def test_second_of_two_differs_from_its_digest(place, choose):
+    """Of two fragments that few survivors give the second differs from its digest: all are read, and nothing is made of a contradiction."""
+    store = place / "second-differs"
+    files = lay_listed(store, choose, ["s.x0", "s.y0"])
+    (store / "s.y1").write_bytes(bytes(255 - byte for byte in files["s.y1"]))
+    for name in ("s.x0", "s.y0"):
+        (store / name).unlink()
+    before = there(store)
+    said = run("repair", store, "--code", "6-2-2", status=1)
+    hold("s: contradiction: one of these is damaged: " in said and there(store) == before, f"{sorted(there(store))}: {said}")
+
+
+def test_leftover_of_a_stripe_that_changes(place, choose):
+    """What was made of a stripe that changes meanwhile, and can't be taken away, is said, with the status of a device."""
+    calls, store = Calls(place, forks=True), place / "changes"
+    lay(store, choose, length=200_000)
+    command = [PROGRAM, "repair", store, "--code", "6-2-2", "--reads", "all", "--workers", "1"]
+    (store / "s.x1").unlink()
+    last = max(number for number, kind in enumerate(calls.run(command).kinds, 1) if kind == "read")
+    (store / "s.x1").unlink()
+    changed = pathlib.Path(calls.run(command, last, errno.EIO).paths[0])
+    (store / "s.x1").unlink()
+    with waiting(calls, place, command, last) as go_on:
+        made, = store.glob(".rebuild-store-*")
+        made.unlink()
+        made.mkdir()
+        os.utime(changed)
+        status, said = go_on()
+    hold(f"{changed.name}: changed meanwhile: nothing of its stripe is put in its place\n" in said, said)
+    line = f"s: was left over, or isn't known to be on the disk: {made}: Is a directory\n"
+    hold(status == 3 and line in said, f"status {status}: {said}")
+    hold(not (store / "s.x1").exists(), "a fragment was made of a stripe that changed")
+
+
+def test_lock_that_is_gone(place, choose):
+    """A run of a part whose lock somebody takes away meanwhile ends as it would."""
+    calls, store = Calls(place, forks=True), place / "gone-lock"
+    files = lay(store, choose)
+    command = [PROGRAM, "repair", store, "--workers", "1", "--part", "1/1"]
+    (store / "s.x0").unlink()
+    number = calls.run(command).kinds.index("link") + 1
+    (store / "s.x0").unlink()
+    with waiting(calls, place, command, number) as go_on:
+        (store / ".rebuild-store-part-1-of-1").unlink()
+        status, said = go_on()
+    hold(status == 0 and there(store) == files, f"status {status}: {sorted(there(store))}: {said}")
+
+
+def test_links_below_real_folders(place, choose):
+    """A disk's folder that is a link isn't written through either where the folder that it is in is none."""
+    store, outside, source = place / "below-real", place / "below-outside", place / "below-source"
+    names = ["--code", "6-2-2", "--names", "in/disk{shard}/{stripe}"]
+    store.mkdir()
+    lay_disks(store / "in", choose)
+    source.write_bytes(b"source")
+    outside.mkdir()
+    shutil.rmtree(store / "in/disk3")
+    (store / "in/disk3").symlink_to(outside)
+    before = below(store)
+    said = run("repair", store, *names, status=3)
+    for name in "ab":
+        hold(f"in/disk3/{name}: can't be put in its place: its folder is a link, and links aren't followed\n" in said, said)
+    said = run("encode", store, source, *names, status=3)
+    hold("its folder is a link" in said and not [*outside.iterdir()] and below(store) == before, f"{sorted(below(store))}: {said}")
+
+
+def test_order_of_what_is_said(place, choose):
+    """What is said of fragments of a stripe that differ from their digests comes in the order of their places."""
+    store = place / "in-order"
+    files = lay_listed(store, choose, [f"s.{name}" for name in ("x1", "y0", "y2", "p0")])
+    wrong = ("x1", "y2", "p0")
+    for name in wrong:
+        (store / f"s.{name}").write_bytes(bytes(255 - byte for byte in files[f"s.{name}"]))
+    lines = "".join(f"s.{name}: differs from the checksums\n" for name in wrong)
+    for words, status in ((["scrub"], 1), (["repair", "--reads", "all"], 1), (["repair", "-n", "--reads", "all"], 1)):
+        said = run(*words, store, status=status)
+        hold(lines in said and said.count("\n") == 4, f"{words}: {said}")
+
+
+def test_limit_met_in_a_later_window(place, choose):
+    """A fragment that would pass the limit on files' lengths with a later window of it ends no run, also where each window is shorter."""
+    store = place / "limited"
+    files = lay(store, choose, length=150_000)
+    (store / "s.y1").write_bytes(files["s.y1"][:-1] + bytes([files["s.y1"][-1] ^ 1]))
+    before = there(store)
+
+    def limit():
+        resource.setrlimit(resource.RLIMIT_FSIZE, (100_000, resource.getrlimit(resource.RLIMIT_FSIZE)[1]))
+
+    said = run("repair", "--replace-damaged", store, status=3, preexec_fn=limit)
+    hold("s.y1: can't be put in its place: would be longer than files may get here: ulimit -f\n" in said, said)
+    hold(there(store) == before, f"{sorted(there(store))}")
+
+
+def test_rights_that_groups_have(place, choose):
+    """New files have the rights that the user's mask leaves, those that a group has too; and what replaces a file, or belongs to a stripe,
+    has all rights that this has, to read and write."""
+    store, source, report, out = (place / name for name in ("granted", "file", "report", "out"))
+    source.write_bytes(choose.randbytes(900))
+    run("encode", store, source, status=0, umask=0o002)
+    run("scrub", store, "--report", report, status=0, umask=0o002)
+    run("read", store, "file", "-o", out, status=0, umask=0o002)
+    modes = {path.name: path.stat().st_mode & 0o7777 for path in (*store.iterdir(), report, out)}
+    hold(set(modes.values()) == {0o664}, f"{[f'{name}: {mode:o}' for name, mode in modes.items() if mode != 0o664]}")
+    for mode, kept in ((0o666, 0o666), (0o662, 0o662), (0o777, 0o666)):
+        for path in store.iterdir():
+            path.chmod(mode)
+        for name in ("file.x0", "file.file"):
+            (store / name).unlink()
+        run("repair", store, status=0, umask=0o022)
+        for name in ("file.x0", "file.file"):
+            found = (store / name).stat().st_mode & 0o7777
+            hold(found == kept, f"{name} beside others of mode {mode:o} has {found:o}")
+    for path, words in ((report, ["scrub", store, "--report", report]), (out, ["read", store, "file", "-o", out])):
+        path.chmod(0o777)
+        run(*words, status=0, umask=0o022)
+        hold(path.stat().st_mode & 0o7777 == 0o777, f"{path.name} has other rights now: {path.stat().st_mode:o}")
+
+
+def test_nothing_is_left_beside_outputs_that_fail(place, choose):
+    """Whichever call fails from the first new file on, nothing is left beside a report, a file that is read, or a description that was to
+    be replaced."""
+    calls, store, source, folder = Calls(place, forks=True), place / "outputs", place / "file", place / "outputs-folder"
+    source.write_bytes(choose.randbytes(900))
+    run("encode", store, source, status=0)
+    folder.mkdir()
+    out, copy = folder / "out", store / "file.file"
+    line = copy.read_bytes()
+    for words, path in ((["scrub", store, "--report", out], out), (["read", store, "file", "-o", out], out),
+                        (["repair", "--replace-damaged", "--workers", "1", store], copy)):
+        for older in (b"older",) if path == copy else (None, b"older"):
+            def anew():
+                (store / "file.file.damaged").unlink(missing_ok=True)
+                path.unlink(missing_ok=True) if older is None else path.write_bytes(older)
+                return [PROGRAM, *words]
+
+            kinds = calls.run(anew()).kinds
+            for number in range(kinds.index("create") + 1, len(kinds) + 1):
+                kind = kinds[number - 1]
+                if kind in ("unlink", "output"):
+                    continue
+                ended = calls.run(anew(), number, errno.ENOSPC)
+                left = [it.name for it in path.parent.iterdir() if it.name.startswith(".rebuild-store-")]
+                hold(not left, f"{words[0]}, call {number}, {kind}: left {left}: {ended.text()}")
+    (store / "file.file.damaged").unlink(missing_ok=True)
+    copy.write_bytes(line)
+
+
+def test_reading_beside_fragments_of_other_lengths(place, choose):
+    """A fragment of another length is left out where a file is read, and so is one on a disk whose folder is a file, of which a description
+    is as good as lost."""
+    store, data, _ = encoded_disks(place, choose)
+    names = DISKS[2:]
+    for number, path in ((1, store / "disk1/note"), (4, store / "disk4/note")):
+        path.write_bytes(path.read_bytes()[:-1] if number == 1 else path.read_bytes() + b"more")
+    shutil.rmtree(store / "disk7")
+    (store / "disk7").write_bytes(b"")
+    ended = subprocess.run([PROGRAM, "read", store, "note", *names], capture_output=True, timeout=SECONDS)
+    said = "".join(f"rebuild-store: disk{number}/note: left out: {why}\n"
+                   for number, why in ((1, "unexpected end of file"), (4, "unexpected end of file"), (7, "Not a directory")))
+    hold((ended.returncode, ended.stdout, ended.stderr.decode()) == (0, data, said), ended.stderr.decode())
+    ended = subprocess.run([PROGRAM, "verify", store, "note", *names], capture_output=True, timeout=SECONDS)
+    hold(ended.returncode == 0 and b"verified 1 file; not as described: 0\n" in ended.stdout, f"{ended}")
+
+
+def test_digests_whose_rights_cannot_be_seen(place, choose):
+    """Where the rights of the digests can't be seen they aren't written anew with others."""
+    calls, store, source = Calls(place, forks=True), place / "unseen", place / "file"
+    source.write_bytes(choose.randbytes(900))
+    run("encode", store, source, status=0)
+    sums, tried = store / "SHA256SUMS", 0
+    sums.chmod(0o604)
+    command = [PROGRAM, "encode", "--as", "other", store, source]
+    before = there(store)
+
+    def begun(*how):
+        shutil.rmtree(store)
+        store.mkdir()
+        for name, data in before.items():
+            (store / name).write_bytes(data)
+        sums.chmod(0o604)
+        return calls.run(command, *how)
+
+    for number, kind in enumerate(begun().kinds, 1):
+        if kind == "look":
+            ended = begun(number, errno.EIO)
+            if ended.paths == (str(sums),):
+                tried += 1
+                hold(ended.status == 3 and sums.read_bytes() == before["SHA256SUMS"], f"call {number}: {ended.text()}")
+                hold(sums.stat().st_mode & 0o7777 == 0o604, f"call {number}: the digests have other rights")
+    hold(tried > 1, f"the digests are looked at {tried} times")
+
+
+def test_damage_that_is_met_elsewhere(place, choose):
+    """What turns out to be damaged, or can't be opened, of the few that are read for a lost fragment is made again in another folder too,
+    and a dry run counts it."""
+    calls, store, to = Calls(place, forks=True), place / "met", place / "met-to"
+    files = lay_listed(store, choose, [f"s.{it}" for it in ("x0", "x1", "x2", "px")])
+    (store / "s.x1").write_bytes(bytes(255 - byte for byte in files["s.x1"]))
+    (store / "s.x0").unlink()
+    to.mkdir()
+    said = run("repair", store, "--to", to, status=0)
+    hold(there(to) == {name: files[name] for name in ("s.x0", "s.x1")} and "damaged: 1: s.x1; not possible: 0\n" in said, said)
+    (store / "s.x1").write_bytes(files["s.x1"])
+    (store / "SHA256SUMS").unlink()
+    command, tried = [PROGRAM, "repair", store, "--code", "6-2-2", "--to", to, "-n", "--workers", "1"], 0
+    for number, kind in enumerate(calls.run(command).kinds, 1):
+        if kind == "open":
+            ended = calls.run(command, number, errno.EIO, rest="path")
+            if ended.paths == (str(store / "s.x1"),):
+                tried += 1
+                hold(ended.status == 3 and "; 2 can be rebuilt (" in ended.out, ended.text())
+    hold(tried > 0, "s.x1 isn't opened")
+
+
+def test_digests_that_cannot_be_read(place, choose):
+    """Digests of which a part can't be read are a failed device for each command that needs them, and nothing is changed: no line of them
+    is lost."""
+    calls, store, source = Calls(place, forks=True), place / "unread-sums", place / "file"
+    source.write_bytes(choose.randbytes(900))
+    run("encode", store, source, status=0)
+    with open(store / "SHA256SUMS", "a") as sums:
+        sums.writelines(f"{digest(b'')}  another-{number}\n" for number in range(500))
+    (store / "file.x0").unlink()
+    before, tried = there(store), 0
+    source.write_bytes(choose.randbytes(901))
+    for words in (["scrub", store], ["lost", store], ["repair", store], ["encode", "--replace", store, source], ["remove", store, "file"]):
+        def anew():
+            shutil.rmtree(store)
+            store.mkdir()
+            for name, data in before.items():
+                (store / name).write_bytes(data)
+            return [PROGRAM, *words]
+
+        for number, kind in enumerate(calls.run(anew()).kinds, 1):
+            if kind == "read":
+                ended = calls.run(anew(), number, errno.EIO)
+                if ended.paths == (str(store / "SHA256SUMS"),):
+                    tried += 1
+                    hold(ended.status == 3 and "SHA256SUMS: Input/output error\n" in ended.err, f"{words[0]}: {ended.text()}")
+                    hold(there(store) == before, f"{words[0]} changed the store")
+    hold(tried > 10, f"the digests are read {tried} times")
+
+
+def test_all_that_differ_are_replaced(place, choose):
+    """Each fragment of a stripe that differs from its digest is replaced, and kept."""
+    store = place / "all-replaced"
+    files = lay_listed(store, choose, [f"s.{it}" for it in ("x1", "y0", "y2")])
+    wrong = {"s.x1": bytes(255 - byte for byte in files["s.x1"]), "s.y2": bytes(600)}
+    for name, data in wrong.items():
+        (store / name).write_bytes(data)
+    before = there(store)
+    said = run("repair", "--replace-damaged", store, status=0)
+    hold("repaired 2 fragments, 1.1 KiB (0 unchecked); damaged: 2: s.x1 s.y2; not possible: 0\n" in said, said)
+    wanted = {**before, **files, **{f"{name}.damaged": data for name, data in wrong.items()}}
+    hold(there(store) == wanted, f"{sorted(name for name in wanted if there(store).get(name) != wanted[name])}: {said}")
 
 
 def tried(place, name):
