@@ -1546,6 +1546,60 @@ def test_remove_of_another_code(place, choose):
                 hold(are_right(store), f"{most} {pattern} {code}: digests aren't those of the files")
 
 
+def test_encode_beside_an_own_description(place, choose):
+    """In a store that was made before the only description of a file may be in the store's own folder: other bytes are refused beside it,
+    and the same ones aren't."""
+    store, file = place / "store", source(place, "a", choose.randbytes(900))
+    run("encode", "--make-folders", *CODED, store, file, status=0)
+    own, copies = store / "a.file", [store / f"disk{number}/a.file" for number in range(10)]
+    copies[0].rename(own)
+    for path in (*copies[1:], *(store / f"disk{number}/a" for number in range(10))):
+        path.unlink()
+    left, right = there(store), file.read_bytes()
+    file.write_bytes(choose.randbytes(800))
+    _, err = run("encode", *CODED, store, file, status=1)
+    hold("a.file: is there already, with other bytes" in err and there(store) == left, f"beside another file's description: {err}")
+    file.write_bytes(right)
+    run("encode", *CODED, store, file, status=0)
+    hold(decoded(store, "a", DISKS[1]) == right and own.read_bytes() == left["a.file"], "not the file beside its own description")
+
+
+def test_begun_of_a_wider_code(place, choose):
+    """What is to replace a file has a code with more fragments than the store's has: it stays as it is, and so does the file."""
+    store, wide, new = place / "store", place / "wide", f"a{STAGED}"
+    run("encode", "--make-folders", *CODED, store, source(place, "a", choose.randbytes(900)), status=0)
+    data = choose.randbytes(700)
+    run("encode", "--make-folders", "--code", "12-2-2", *DISKS, wide, source(place, "w", data), status=0)
+    for path in [*wide.glob("disk*/w*")]:
+        path.rename(path.with_name(path.name.replace("w", new)))
+    # Its only description is on a disk that no stripe of the store's code has.
+    for path in wide.rglob("*.file"):
+        if path.parent.name != "disk12":
+            path.unlink()
+    (wide / "SHA256SUMS").unlink()
+    shutil.copytree(wide, store, dirs_exist_ok=True)
+    before = there(store)
+    _, err = run("encode", *CODED, store, source(place, "a", choose.randbytes(800)), status=1)
+    hold("12-2-2" in err and there(store) == before, f"something is written: {err}")
+    hold(run("read", *DISKS, store, "a", status=0)[0] == data, "not what is to replace it is read")
+
+
+def test_a_store_by_a_link(place, choose):
+    """The path of the store itself may be a link, whether links in the store are followed or not."""
+    store, link, file = place / "store", place / "link", source(place, "a", choose.randbytes(900))
+    run("encode", store, file, status=0)
+    whole = there(store)
+    link.symlink_to("store")
+    (store / "a.y1").unlink()
+    hold(b"degraded" in run("list", link, status=0)[0], "what is lost isn't seen by a link")
+    run("repair", link, status=0)
+    hold(there(store) == whole, "not the fragment that was lost")
+    run("scrub", link, status=0)
+    run("encode", link, source(place, "b", b"b"), status=0)
+    run("remove", link, "b", status=0)
+    hold(there(store) == whole and link.is_symlink(), "not the store that was")
+
+
 def test_short_files(place, choose):
     """Of a file that is shorter than its fragments together those are enough that have bytes of it, or determine these."""
     store = place / "store"
