@@ -2746,7 +2746,7 @@ def test_memory_that_is_refused_meanwhile(place, choose):
         return ran
 
     for store, command, given, status, said in ((alone, "encode", file, 1, b"is there already"), (few, "encode", file, 1, b"too little"),
-                                                (few, "read", "a", 0, b"none"), (lost, "read", "a", 0, b"left out"),
+                                                (few, "read", "a", 0, b"none"), (lost, "read", "a", 0, b"No such file"),
                                                 (lost, "remove", "a", 0, b"none")):
         # Until then it does what it does for any file.
         begin, end = one(store, command, none.name if given == "a" else none).allocations, one(store, command, given).allocations
