@@ -2958,7 +2958,7 @@ def test_new_file_that_another_locks(place, choose):
 def test_temporary_names_that_are_taken(place, choose):
     """Where something has the name that a new file was to get, another is tried; where all that are tried are taken, that is said."""
     store, source = place / "taken", place / "file"
-    files = lay(store, choose)
+    lay(store, choose)
     source.write_bytes(b"some text")
     run("encode", store, source, status=0)
     files = there(store)
@@ -3292,8 +3292,8 @@ def test_limit_met_in_a_later_window(place, choose):
 
 
 def test_rights_that_groups_have(place, choose):
-    """New files have the rights that the user's mask leaves, those that a group has too; and what replaces a file, or belongs to a stripe,
-    has all rights that this has, to read and write."""
+    """New files have the rights that the user's mask leaves, a group's too. A fragment and a description get all rights to read and write
+    that the others of their stripe have, and what replaces a file all rights of this."""
     store, source, report, out = (place / name for name in ("granted", "file", "report", "out"))
     source.write_bytes(choose.randbytes(900))
     run("encode", store, source, status=0, umask=0o002)
@@ -3324,7 +3324,6 @@ def test_nothing_is_left_beside_outputs_that_fail(place, choose):
     run("encode", store, source, status=0)
     folder.mkdir()
     out, copy = folder / "out", store / "file.file"
-    line = copy.read_bytes()
     for words, path in ((["scrub", store, "--report", out], out), (["read", store, "file", "-o", out], out),
                         (["repair", "--replace-damaged", "--workers", "1", store], copy)):
         for older in (b"older",) if path == copy else (None, b"older"):
@@ -3341,8 +3340,6 @@ def test_nothing_is_left_beside_outputs_that_fail(place, choose):
                 ended = calls.run(anew(), number, errno.ENOSPC)
                 left = [it.name for it in path.parent.iterdir() if it.name.startswith(".rebuild-store-")]
                 hold(not left, f"{words[0]}, call {number}, {kind}: left {left}: {ended.text()}")
-    (store / "file.file.damaged").unlink(missing_ok=True)
-    copy.write_bytes(line)
 
 
 def test_reading_beside_fragments_of_other_lengths(place, choose):
