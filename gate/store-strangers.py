@@ -3452,6 +3452,26 @@ def test_all_that_differ_are_replaced(place, choose):
     hold(there(store) == wanted, f"{sorted(name for name in wanted if there(store).get(name) != wanted[name])}: {said}")
 
 
+def test_folders_of_unfinished_files(place, choose):
+    """A new file is in the folder in which it is to get its name, on that disk, also where a link leads there."""
+    calls, store, outside = Calls(place, forks=True), place / "folders", place / "folders-outside"
+    lay_disks(store, choose, names=("a",))
+    outside.mkdir()
+    for lost, folder in ((store / "disk3/a", store / "disk3"), (store / "disk5/a", outside)):
+        def lose():
+            lost.unlink(missing_ok=True)
+            if folder == outside:
+                (outside / "there").unlink(missing_ok=True)
+                lost.symlink_to(outside / "there")
+            return [PROGRAM, "repair", store, *DISKS, "--follow-links", "--workers", "1"]
+
+        number = calls.run(lose()).kinds.index("link") + 1
+        with waiting(calls, place, lose(), number) as go_on:
+            made = [path.parent for path in place.rglob(".rebuild-store-*")]
+            status, said = go_on()
+        hold(status == 0 and made == [folder], f"{lost}: files in {made}: status {status}: {said}")
+
+
 def tried(place, name):
     """Runs a test, and gives how many checks passed, why it failed, and why it was left out."""
     global passed
