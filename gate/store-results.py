@@ -20,6 +20,8 @@ import tempfile
 
 # No compiled copy of the modules is left beside them.
 sys.dont_write_bytecode = True
+import refusals  # noqa: E402
+
 ROOT = pathlib.Path(__file__).resolve().parent.parent
 sys.path.append(str(ROOT / "tools"))
 from faults import Calls  # noqa: E402
@@ -519,6 +521,235 @@ def test_part_without_stripes(place, choose):
     last = "scrubbed 0 stripes: 0 damaged, 0 lost or contradictory, 0 stripes without any check\n"
     compare("a scrub", run("scrub", *words, status=0), (last, ""))
     compare("lost", run("lost", *words, status=0), (LIST["6-2-2"], "0 stripes; 0 fragments lost, 0 of them not in the list\n"))
+
+
+ODD = "isn't a line with a length, a digest and a code"
+COPIES = ("a.file", "a.file.copy")
+
+
+def lay_file(place, data, *words, name="store"):
+    """A store of a file `a` with these bytes, and what its descriptions say."""
+    source, store = place / "a", place / name
+    source.write_bytes(data)
+    run("encode", *words, store, source, status=0)
+    return store, f"{len(data)} {hashlib.sha256(data).hexdigest()} {'12-2-2' if '12-2-2' in words else '6-2-2'}\n".encode()
+
+
+def without_copies(store, *more):
+    """Takes the copies of the file's description out of a store, and other files."""
+    for name in (*COPIES, *more):
+        (store / name).unlink()
+
+
+def copies_of(store):
+    return [(store / name).read_bytes() for name in COPIES]
+
+
+def test_copies_of_which_none_is_believed(place, _choose):
+    """Copies of a description of which none is believed aren't said to be left for --replace-damaged: that replaces none of them."""
+    store, text = lay_file(place, b"some text")
+    other, sums = text.replace(b"9 ", b"8 ", 1), store / "SHA256SUMS"
+    undecided = ["a: its descriptions differ, and nothing says which is right"]
+    for said, listed, lines in (
+            ([b"odd", b"odd"], "", [f"{name}: {ODD}" for name in COPIES]), ([text, other], "", undecided),
+            ([text, text], f"{'0' * 64}  a.file\n", [f"{name}: {DIFFERS}" for name in COPIES])):
+        sums.write_text(listed)
+        for name, data in zip(COPIES, said):
+            (store / name).write_bytes(data)
+        for words in ([], ["--replace-damaged"]):
+            last = f"repaired 0 fragments, 0 bytes (0 unchecked); damaged: 0; not possible: {len(lines)}\n"
+            compare(f"a repair {words} of {said}", run("repair", *words, store, status=1), (last, "".join(f"{line}\n" for line in lines)))
+            out, _ = run("repair", "--dry-run", *words, store, status=1)
+            check(f"; 0 can be rebuilt (0 unchecked), {len(lines)} can't; " in out, out)
+            compare("what it leaves", copies_of(store), said)
+
+
+def test_copies_that_digests_name_in_part(place, _choose):
+    """The digest of one copy of a description says which of them is right, whichever it is of; without digests a copy differs from the
+    others."""
+    store, text = lay_file(place, b"some text")
+    other = text.replace(b"9 ", b"8 ", 1)
+    for right, wrong in (COPIES, COPIES[::-1]):
+        (store / right).write_bytes(text)
+        (store / wrong).write_bytes(other)
+        (store / "SHA256SUMS").write_text(sums_of(store, right))
+        out, _ = run("scrub", store, status=1)
+        compare(f"where {right} has its digest", out.splitlines()[:-1], [f"{wrong}: {DIFFERS}"])
+        run("repair", "--replace-damaged", store, status=0)
+        compare("what is repaired", copies_of(store), [text, text])
+        (store / f"{wrong}.damaged").unlink()
+    names = ["--names", "disk{shard}/{stripe}"]
+    disks, _ = lay_file(place, b"some text", "--make-folders", *names, name="disks")
+    (disks / "SHA256SUMS").unlink()
+    (disks / "disk4/a.file").write_bytes(other)
+    out, _ = run("scrub", "--code", "6-2-2", *names, disks, status=1)
+    compare("without digests", out.splitlines()[:-1], ["disk4/a.file: differs from the other descriptions of its stripe"])
+
+
+def test_descriptions_made_of_fragments(place, choose):
+    """A description of which no copy is left is made of the fragments of a (12,2,2) stripe too, and of those that links lead to, whose
+    rights it has then."""
+    for length in (1, 100, 1_200):
+        store, text = lay_file(place, choose.randbytes(length - 1) + b"z", "--code", "12-2-2", name=f"store-{length}")
+        without_copies(store, "a.x3")
+        run("repair", store, status=0)
+        compare(f"the descriptions of {length} bytes", copies_of(store), [text, text])
+    outside = place / "outside"
+    outside.mkdir()
+    for path in [*store.glob("a.[xyp]?")]:
+        path.chmod(0o640)
+        path.rename(outside / path.name)
+        path.symlink_to(outside / path.name)
+    without_copies(store)
+    run("repair", "--follow-links", store, status=0)
+    compare("those of links", copies_of(store), [text, text])
+    compare("their rights", [(store / name).lstat().st_mode for name in COPIES], [0o100640] * 2)
+    to = place / "to"
+    to.mkdir()
+    without_copies(store)
+    run("repair", "--follow-links", store, "--to", to, status=0)
+    compare("those in another folder", copies_of(to), [text, text])
+    compare("the rights of these", [(to / name).lstat().st_mode for name in COPIES], [0o100640] * 2)
+
+
+def test_descriptions_elsewhere_through_a_link(place, _choose):
+    """No copy of a description is made where a folder of the other folder is a link; one of the store that is a link is in nobody's way."""
+    words = ["--code", "6-2-2", "--names", "disk{shard}/{stripe}"]
+    for number, linked in enumerate(("to", "store")):
+        store, text = lay_file(place, b"some text", *words, "--make-folders", name=f"store-{number}")
+        to, outside = place / f"to-{number}", place / f"outside-{number}"
+        outside.mkdir()
+        for shard in range(10):
+            (to / f"disk{shard}").mkdir(parents=True)
+        (store / "disk3/a.file").unlink()
+        if linked == "to":
+            (to / "disk3").rmdir()
+            (to / "disk3").symlink_to(outside)
+            _, err = run("repair", *words, store, "--to", to, status=3)
+            said = f"rebuild-store: {to}/disk3: is a link, and isn't followed without --follow-links\n"
+            said += "disk3/a.file: can't be put in its place: its folder is a link, and links aren't followed\n"
+            compare("what is said, and made outside", (err, [*outside.iterdir()]), (said, []))
+        else:
+            (store / "disk3").rename(outside / "disk3")
+            (store / "disk3").symlink_to(outside / "disk3")
+            _, err = run("repair", *words, store, "--to", to, status=0)
+            there = sorted(str(path.relative_to(to)) for path in to.rglob("*") if path.is_file())
+            compare(f"what is made: {err}", there, ["disk3/a", "disk3/a.file"])
+            compare("the description", (to / "disk3/a.file").read_bytes(), text)
+
+
+def test_rights_beside_what_is_no_fragment(place, _choose):
+    """Where a fragment can't be looked at, nobody but its user may read a description that is made again; a folder in the place of a
+    fragment has no say in who may, and what is no description under the name of one has."""
+    for kind, words, status, mode in (("loop", ["--follow-links"], 3, 0o600), ("folder", [], 1, 0o644)):
+        store, text = lay_file(place, b"some text", name=kind)
+        for path in store.iterdir():
+            path.chmod(0o644)
+        without_copies(store, "a.p1")
+        (store / "a.p1").symlink_to("a.p1") if kind == "loop" else (store / "a.p1").mkdir(mode=0o700)
+        run("repair", *words, store, status=status)
+        compare(f"the descriptions beside a {kind}", copies_of(store), [text, text])
+        compare(f"their rights beside a {kind}", [(store / name).stat().st_mode & 0o7777 for name in COPIES], [mode, mode])
+    store, text = lay_file(place, b"some text", name="odd")
+    (store / "a.file").write_bytes(b"odd")
+    (store / "a.file").chmod(0o600)
+    (store / "a.file.copy").unlink()
+    run("repair", store, status=1)
+    compare("the descriptions beside an odd one", copies_of(store), [b"odd", text])
+    compare("the rights beside an odd one", (store / "a.file.copy").stat().st_mode & 0o7777, 0o600)
+
+
+def test_copies_that_would_not_stay(place, _choose):
+    """No copy of a description is made where a link leads to a name of unfinished files, since the next run would take that away; nor is
+    what is no regular file in another folder taken for a copy that an earlier run has made there."""
+    store, text = lay_file(place, b"some text")
+    outside = place / "outside"
+    outside.mkdir()
+    (store / "a.file").unlink()
+    (store / "a.file").symlink_to(outside / ".rebuild-store-0123456789abcdef")
+    _, err = run("repair", "--follow-links", store, status=3)
+    check(err.startswith("a.file: can't be put in its place: ") and not [*outside.iterdir()], f"{[*outside.iterdir()]}: {err}")
+    (store / "a.file").unlink()
+    (place / "right").write_bytes(text)
+    for number, under in enumerate(("a link to nothing", "a folder", "a FIFO", "a link to a copy")):
+        to = place / f"to-{number}"
+        to.mkdir()
+        (to / "a.file").symlink_to(place / "right") if under == "a link to a copy" else put_under(to / "a.file", under)
+        out, err = run("repair", store, "--to", to, status=1)
+        check(err.startswith("a.file: has come meanwhile, or one that was replaced is kept beside it"), f"{under}: {out}{err}")
+        check(not (to / "a.file").is_file() or (to / "a.file").is_symlink(), f"{under} was replaced")
+
+
+def test_plan_beside_a_digest_that_differs(place, choose):
+    """That a fragment differs from its digest says nothing of another one, which no check covers: a dry run says that this is left, as the
+    repair does."""
+    store = lay(place / "store", choose, "s", 600, ("x0",))
+    (store / "SHA256SUMS").write_text(sums_of(store, "s.y0", "s.y1"))
+    change(store / "s.y0")
+    (store / "s.x1").write_bytes(b"abc")
+    words = ["repair", store, "--reads", "all", "--replace-damaged", "--json"]
+    for more, rebuilt, left in ((["--dry-run"], "would be rebuilt", SHORT), ([], "rebuilt", NOT_REPLACED)):
+        out, _ = run(*words, *more, status=1)
+        rows = [row[1:] for row in objects_of(out)]
+        compare(f"rows of x1 {more}", [row for row in rows if row[0] == "x1"], [("x1", "left", left)])
+        check(("y0", rebuilt, "") in rows and ("x0", rebuilt, "unchecked") in rows, out)
+
+
+LOOPS = "can't be looked at: Too many levels of symbolic links"
+
+
+def test_plan_of_what_cannot_be_looked_at(place, choose):
+    """What can't be looked at is rebuilt into another folder alone, as a dry run says."""
+    for is_elsewhere in (False, True):
+        store, to = lay(place / f"store-{is_elsewhere}", choose, "s", 600, ("x0",)), place / f"to-{is_elsewhere}"
+        (store / "s.x0").symlink_to("s.x0")
+        to.mkdir()
+        words = ["repair", "--follow-links", "--json", "--reads", "all", store, *(["--to", to] if is_elsewhere else [])]
+        for more, rebuilt in ((["--dry-run"], "would be rebuilt"), ([], "rebuilt")):
+            done = subprocess.run([PROGRAM, *map(str, [*words, *more])], capture_output=True, timeout=SECONDS)
+            rows = rows_of_x0(done.stdout.decode())
+            check(is_elsewhere or done.returncode == 3, f"{more}: status {done.returncode}: {done.stderr}")
+            check(rows[:1] == [(rebuilt, "") if is_elsewhere else ("left", LOOPS)], f"{more}, elsewhere: {is_elsewhere}: {rows}")
+        check((to / "s.x0").is_file() == is_elsewhere, f"elsewhere: {is_elsewhere}: {[*to.iterdir()]}")
+
+
+def test_store_that_fits_by_its_digests(place, choose):
+    """A store of which no stripe fits the code is refused by its name, its code and the first such stripe; it isn't, if a stripe does
+    without the fragments that differ from their digests."""
+    store = lay(place / "store", choose, "s", 600)
+    whole, sums = {path.name: path.read_bytes() for path in store.iterdir()}, sums_of(store)
+    for name in ("s.x0", "s.y0"):
+        change(store / name)
+    said = f"rebuild-store: {store}: no stripe fits the code 6-2-2, as s: is this the store? With --code 6-2-2 each is named\n"
+    compare("a repair without digests", run("repair", "--replace-damaged", store, status=1), ("", said))
+    (store / "SHA256SUMS").write_text(sums)
+    run("repair", "--replace-damaged", store, status=0)
+    compare("a repair with digests", {name: (store / name).read_bytes() for name in whole}, whole)
+
+
+def test_descriptions_without_memory(place, _choose):
+    """A run that is refused memory while it makes copies of a description ends with that, or with all of them made, with their rights."""
+    library = refusals.Library(place, forks=True)
+    store, text = lay_file(place, b"some text")
+    command = [str(it) for it in (PROGRAM, "repair", "--workers", 1, store)]
+    before = library.run(command).allocations
+    for gone in (COPIES[:1],):
+        def refused(number):
+            for name in gone:
+                (store / name).unlink(missing_ok=True)
+            return library.run(command, refusal=refusals.Refusal(allocation=number))
+
+        ends, many = set(), refused(0).allocations
+        # What is asked for before the copies is asked for where none is lost, too.
+        for number in range(max(1, 2 * before - many - 60), many + 1):
+            ran = refused(number)
+            made = [(path.read_bytes(), path.stat().st_mode) for path in (store / name for name in COPIES) if path.exists()]
+            is_made = made == [(text, (store / "a.x0").stat().st_mode)] * 2
+            check(ran.status == 4 or ran.status == 0 and is_made, f"{gone}, allocation {number} of {many}: {made}: {ran.text()}")
+            ends.add(ran.status)
+            for path in store.glob(".rebuild-store-*"):
+                path.unlink()
+        check(4 in ends, f"runs ended with {ends}")
 
 
 def main(program=None, only=""):
