@@ -405,8 +405,7 @@ def main(program):
     PROGRAM = pathlib.Path(program or PROGRAM).resolve()
     choose = random.Random(2026)
     tests = (test_full, test_most_lost_first, test_read_only, test_links, test_long_names, test_leftover_folder, test_unmounted,
-             test_unmounted_behind_links, test_missing_beside_mounted, test_other_users, test_owner, test_cut)
-             test_unmounted_behind_links, test_other_users, test_owner, test_cut, test_disks_alike)
+             test_unmounted_behind_links, test_missing_beside_mounted, test_other_users, test_owner, test_cut, test_disks_alike)
     with tempfile.TemporaryDirectory() as scratch:
         place = pathlib.Path(scratch)
         place.chmod(0o755)
