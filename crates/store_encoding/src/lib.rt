@@ -7,6 +7,7 @@
 #![tactic(auto)]
 
 mod encoding;
+mod own_code;
 mod own_folders;
 mod refusing;
 mod removing;

@@ -9,18 +9,15 @@ ghost use Rattle.store_encoding.specs.Taken.{GoesOf, IsTakenOut, KeepsRest};
 
 use crate::encoding::stripe_files::StripeFiles;
 use crate::encoding::sums::{forget_digests, write_new_sums};
+use crate::own_code::code_of;
 use crate::own_folders::remove_own_folders;
 use crate::refusing::refused;
 use crate::taking::take_files;
 use folders::Folder;
-use lrc_code::Code;
 use std::alloc::{AllocError, Global};
 use std::io::ErrorKind;
 use store_faults::{FileFault, device, say};
-use store_files::{
-    StoredFile, Target, first_described, is_there, no_stored, own_description, refuse_linked,
-    staged_name,
-};
+use store_files::{Target, is_there, no_stored, own_description, refuse_linked, staged_name};
 use store_folder::{
     Digest, Sums, SystemFolder, description_names, is_absent, is_description_name, read_description,
 };
@@ -44,23 +41,6 @@ pub fn remove_stored(
     let removed = remove_named(rt, target, name, staged.as_str());
     target.code = code;
     removed
-}
-
-/// The code that the first of these stripes with a description is said to have, and that of the store where none has one.
-fn code_of(rt: &HostRuntime, target: &Target<'_>, names: [&str; 2]) -> Result<Code, FileFault> {
-    for name in names {
-        let file = StoredFile {
-            folder: target.folder,
-            pattern: target.pattern,
-            name,
-            links: target.links,
-            progress: None,
-        };
-        if let Some(described) = first_described(rt, &file)? {
-            return Ok(described.code);
-        }
-    }
-    Ok(target.code)
 }
 
 /// Takes the file of a name out of a store, and what was to replace it, by the target's code.
