@@ -51,9 +51,12 @@ pub fn read_file(
             return Err(fault);
         }
         let name = file.name;
-        let _ = say(rt, format!(in rt.alloc();
-            "rebuild-store: {name}: was replaced meanwhile, and is read again"
-        ));
+        let _ = say(
+            rt,
+            format!(in rt.alloc();
+                "rebuild-store: {name}: was replaced meanwhile, and is read again"
+            ),
+        );
     }
     let seen = Seen::now(rt, &staged, file)?;
     read_newest(rt, &staged, file, seen, output)?.map_or(Ok(()), Err)
