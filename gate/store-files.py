@@ -1544,6 +1544,12 @@ def test_remove_of_another_code(place, choose):
                 run("remove", *pattern, *code, store, "w", status=0)
                 hold(there(store) | {"SHA256SUMS": b""} == before | {"SHA256SUMS": b""}, f"{most} {pattern} {code}: {sorted(there(store))}")
                 hold(are_right(store), f"{most} {pattern} {code}: digests aren't those of the files")
+            # Also what was to replace a file, where nothing else of it is left.
+            for path in [*beside.rglob("w*")]:
+                path.rename(path.with_name(path.name.replace("w", f"w{STAGED}", 1)))
+            shutil.copytree(beside, store, dirs_exist_ok=True)
+            run("remove", *pattern, *(["--code", most] if pattern else []), store, "w", status=0)
+            hold(there(store) | {"SHA256SUMS": b""} == before | {"SHA256SUMS": b""}, f"{most} {pattern}: {sorted(there(store))}")
 
 
 def test_encode_beside_an_own_description(place, choose):
@@ -1598,6 +1604,44 @@ def test_a_store_by_a_link(place, choose):
     run("encode", link, source(place, "b", b"b"), status=0)
     run("remove", link, "b", status=0)
     hold(there(store) == whole and link.is_symlink(), "not the store that was")
+
+
+def test_remove_that_ends_early(place, choose):
+    """A run that can't read the digests takes nothing out, and leaves no lock that would keep others from the store."""
+    store = place / "store"
+    run("encode", store, source(place, "a", choose.randbytes(900)), status=0)
+    sums = (store / "SHA256SUMS").read_bytes()
+    (store / "SHA256SUMS").unlink()
+    before = there(store)
+    (store / "SHA256SUMS").mkdir()
+    ended = ran("remove", store, "a")
+    hold(ended.returncode == 3 and b"SHA256SUMS" in ended.stderr, ended.stderr)
+    hold(there(store) == before and {path.name for path in store.iterdir()} == {*before, "SHA256SUMS"}, sorted(store.iterdir()))
+    (store / "SHA256SUMS").rmdir()
+    (store / "SHA256SUMS").write_bytes(sums)
+    run("remove", store, "a", status=0)
+
+
+def test_few_that_differ(place, choose):
+    """What a repair reads is held to its digests also where it reads as few fragments as it takes: one that differs is used for nothing."""
+    store = place / "store"
+    run("encode", store, source(place, "a", choose.randbytes(900)), status=0)
+    right = (store / "a.x0").read_bytes()
+    lines = (store / "SHA256SUMS").read_text().splitlines(True)
+    (store / "SHA256SUMS").write_text("".join(line for line in lines if not line.endswith("  a.x0\n")))
+    (store / "a.x0").unlink()
+    (store / "a.x1").write_bytes(bytes(len(right)))
+    _, err = run("repair", "--reads", "few", store, status=1)
+    hold("a.x1: differs from" in err and (store / "a.x0").read_bytes() == right, f"not the fragment that was lost: {err}")
+
+
+def test_folder_of_names_that_is_gone(place, choose):
+    """The folder that all names of a store have is said where it isn't there."""
+    store, names = place / "store", ["--names", "in/{stripe}.{place}", "--code", "6-2-2"]
+    store.mkdir()
+    for command in ("lost", "scrub", "list", "repair"):
+        _, err = run(command, *names, store, status=1)
+        hold(f"{store}/in: No such file or directory: what should be in it counts as lost" in err, f"{command}: {err}")
 
 
 def test_short_files(place, choose):
@@ -2211,6 +2255,7 @@ def test_unmounted_disk(place, choose):
     $p repair $w {store}; echo "two $? $(ls -A {store}/disk8 {store}/disk9 | grep -c '^[ab]')"
     umount {store}/disk6
     echo "most $($p repair -n $w {store} 2>&1 | grep -c 'no disk is mounted')"
+    echo "named $($p repair -n --to {place}/to --allow-unmounted $w {store} 2>&1 | grep -c 'no disk is mounted')"
     umount {store}/disk7
     echo "half $($p repair -n $w {store} 2>&1 | grep -c 'no disk is mounted')"
     for n in 4 5; do umount {store}/disk$n; done
@@ -2219,12 +2264,13 @@ def test_unmounted_disk(place, choose):
     ended = subprocess.run(["unshare", "--mount", "bash", "-c", script], capture_output=True, text=True, timeout=SECONDS)
     if ended.returncode == 77 or "unshare" in ended.stderr:
         raise Skipped(f"nothing can be mounted here: {ended.stderr.strip()}")
-    kinds = ("repair", "plan", "scrub", "lost", "encode", "to", "left", "allowed", "made", "kept", "encoded", "two", "most", "half", "few")
+    kinds = ("repair", "plan", "scrub", "lost", "encode", "to", "left", "allowed", "made", "kept", "encoded", "two", "most", "named",
+             "half", "few")
     words = [line for line in ended.stdout.splitlines() if line.split()[0] in kinds]
     # What is in the folder of such a disk is looked at as elsewhere. Of ten disks four that are not mounted are fewer than the others, and
     # five are not.
     want = ["repair 3", "plan 3", "scrub 1", "lost 1", "encode 1", "to 0 2", "left 0", "allowed 0", "made 2", "kept 0", "encoded 0",
-            "two 3 0", "most 4", "half 0", "few 0"]
+            "two 3 0", "most 4", "named 4", "half 0", "few 0"]
     hold([line for line in words if not line.startswith(("repaired", "encoded 1 "))] == want, f"{words}: {ended.stdout}{ended.stderr}")
     said = [ended.stderr.count(f"disk{number}: no disk is mounted there") for number in (3, 9)]
     hold(said == [7, 1], ended.stderr)
