@@ -1644,6 +1644,27 @@ def test_folder_of_names_that_is_gone(place, choose):
         hold(f"{store}/in: No such file or directory: what should be in it counts as lost" in err, f"{command}: {err}")
 
 
+def test_lost_description_that_cannot_be_written(place, choose):
+    """Where the lost description of what is to replace a file can't be written, whatever call fails for that, nothing of it stays, and the
+    file is replaced nevertheless."""
+    kept, _, new = begun_replacement(place, choose)
+    (kept / f"a{STAGED}.file").unlink()
+    calls, store, tried = Calls(place, forks=True), place / "again", set()
+    command = [PROGRAM, "encode", "--replace", store, place / "a"]
+    shutil.copytree(kept, store)
+    for number, kind in enumerate(calls.run(command).kinds, 1):
+        if kind not in ("create", "write", "chmod", "chown", "sync"):
+            continue
+        shutil.rmtree(store)
+        shutil.copytree(kept, store)
+        ended = calls.run(command, number, 28)
+        tried.add(kind)
+        left = {path.name for path in store.iterdir() if path.name.startswith(".rebuild-store-")}
+        hold(not left, f"call {number}, {kind}: {left} stay: {ended.text()}")
+        hold(decoded(store, "a") == new or decoded(store, f"a{STAGED}") == new, f"call {number}, {kind}: the new file is gone")
+    hold({"create", "write", "sync"} <= tried, tried)
+
+
 def test_short_files(place, choose):
     """Of a file that is shorter than its fragments together those are enough that have bytes of it, or determine these."""
     store = place / "store"
