@@ -763,6 +763,31 @@ def test_lock_that_cannot_be_given_back(place, choose):
     hold(not lock.exists(), "a lock stays")
 
 
+def test_lock_after_any_fault(place, choose):
+    """Whatever call fails in a run of a part, and whatever status that ends with, its lock is taken away, unless that call is the fault."""
+    store, tried = place / "store", set()
+    files = lay(store, choose)
+    calls, lock = Calls(place, forks=True), store / ".rebuild-store-part-1-of-1"
+    command = [PROGRAM, "repair", store, "--part", "1/1"]
+
+    def ready():
+        (store / "s.x0").unlink(missing_ok=True)
+        (store / ".rebuild-store-1-1-0123456789abcdef").write_bytes(b"half")
+
+    ready()
+    for number, kind in enumerate(calls.run(command).kinds, 1):
+        for error in (errno.EIO, errno.ENOMEM):
+            ready()
+            ran = calls.run(command, number, error)
+            tried.add(ran.status)
+            if str(lock) in ran.paths:
+                lock.unlink(missing_ok=True)
+            hold(not lock.exists(), f"call {number}, {kind}: {ran.paths}: the lock stays: {ran.text()}")
+    hold(tried >= {0, 3, 4}, f"no run was refused: {tried}")
+    run(*command[1:], status=0)
+    hold(there(store) == files, "the store isn't what it was")
+
+
 @contextlib.contextmanager
 def waiting(calls, place, words, number):
     """A run that waits before the call of this number: gives a function that lets it go on and gives its status and what it says."""
