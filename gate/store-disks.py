@@ -219,6 +219,8 @@ def test_unmounted(place, choose):
     system("umount", place / "disk3")
     ended = Calls(place).run([PROGRAM, "repair", *words, place])
     hold(ended.status == 3 and "create" not in ended.kinds, f"a file was made: {ended.text()}")
+    planned = run("repair", "--dry-run", *words, place, status=3)
+    hold("2 can't" in planned and "can be made" not in planned, f"a plan makes something there: {planned}")
     for name in ("source", "source.file"):
         hold_named(ended.err, f"disk3/{name}", "No medium found")
         (place / "disk3" / name).write_bytes(b"other")

@@ -1665,6 +1665,18 @@ def test_lost_description_that_cannot_be_written(place, choose):
     hold({"create", "write", "sync"} <= tried, tried)
 
 
+def test_remove_beside_a_link_below_a_file(place, choose):
+    """A link that leads below what is no folder has no folder in which a run may have left something: nothing is said, and nothing fails."""
+    store = place / "store"
+    for name in ("a", "b"):
+        run("encode", store, source(place, name, choose.randbytes(900)), status=0)
+    (place / "notes").write_bytes(b"notes")
+    (store / "a.x0").unlink()
+    (store / "a.x0").symlink_to(place / "notes/x0")
+    out, err = run("remove", "--follow-links", store, "b", status=0)
+    hold("notes" not in err and out == b"removed 1 file; not removed: 0\n", err)
+
+
 def test_short_files(place, choose):
     """Of a file that is shorter than its fragments together those are enough that have bytes of it, or determine these."""
     store = place / "store"
