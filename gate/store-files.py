@@ -1666,7 +1666,7 @@ def test_lost_description_that_cannot_be_written(place, choose):
 
 
 def test_remove_beside_a_link_below_a_file(place, choose):
-    """A link that leads below what is no folder has no folder in which a run may have left something: nothing is said, and nothing fails."""
+    """A link that leads below what is no folder has no folder in which a run may have left something: that is neither said nor a fault."""
     store = place / "store"
     for name in ("a", "b"):
         run("encode", store, source(place, name, choose.randbytes(900)), status=0)
@@ -1675,6 +1675,68 @@ def test_remove_beside_a_link_below_a_file(place, choose):
     (store / "a.x0").symlink_to(place / "notes/x0")
     out, err = run("remove", "--follow-links", store, "b", status=0)
     hold("notes" not in err and out == b"removed 1 file; not removed: 0\n", err)
+
+
+def test_encode_into_a_store_of_both_codes(place, choose):
+    """A file is encoded only into a store none of whose stripes is of another code, however few these are."""
+    store = place / "store"
+    for code, names in (("12-2-2", ("a", "b", "c")), ("6-2-2", ("w",))):
+        other = place / code
+        for name in names:
+            run("encode", "--code", code, other, source(place, name, choose.randbytes(900)), status=0)
+        (other / "SHA256SUMS").unlink()
+        shutil.copytree(other, store, dirs_exist_ok=True)
+    before = there(store)
+    for code, other in (("12-2-2", "6-2-2"), ("6-2-2", "12-2-2")):
+        _, err = run("encode", "--code", code, store, source(place, "new", choose.randbytes(900)), status=1)
+        hold(other in err and there(store) == before, f"{code}: {err}")
+
+
+def test_replace_what_cannot_be_looked_at(place, choose):
+    """Where a name of the file can't be looked at once all of the new one is there, none of its names is given: what has it may be no file.
+    The new one stays beside it, and the same command ends the work."""
+    first, store, tried = place / "first", place / "store", set()
+    old, new = choose.randbytes(900), choose.randbytes(800)
+    run("encode", first, source(place, "a", old), status=0)
+    names = {str(store / name) for name in there(first)}
+    source(place, "a", new)
+    calls, command = Calls(place, forks=True), [PROGRAM, "encode", "--replace", store, place / "a"]
+    shutil.copytree(first, store)
+    kinds = calls.run(command).kinds
+    # Each name is given by a link and a rename. Before the first of these the last new file got its own name.
+    given = kinds.index("rename") - 1
+    made = given - kinds[:given][::-1].index("link")
+    for number in [number for number in range(made, given) if kinds[number - 1] == "look"]:
+        shutil.rmtree(store)
+        shutil.copytree(first, store)
+        ended = calls.run(command, number, 5)
+        if ended.paths[0] in names:
+            tried.add(ended.paths[0])
+            hold(ended.status == 3 and f"{ended.paths[0]}: Input/output error" in ended.err, f"look {number}: {ended.text()}")
+            hold(decoded(store, "a") == old and decoded(store, f"a{STAGED}") == new, f"look {number}: not both files")
+    hold(tried >= {path for path in names if "SHA256SUMS" not in path}, tried)
+    run(*command[1:], status=0)
+    hold(decoded(store, "a") == new and are_right(store), "not the new file")
+
+
+def test_digests_of_what_isn_t_there(place, choose):
+    """A failed run that replaces a file leaves no digest of a name that it would have given, also none that one before it has left."""
+    calls, first, store, tried = Calls(place, forks=True), place / "first", place / "store", 0
+    run("encode", first, source(place, "a", choose.randbytes(900)), status=0)
+    sums = (first / "SHA256SUMS").read_text()
+    lines = [f"{hashlib.sha256(b'').hexdigest()}  a{STAGED}.{place}\n" for place in (*PLACES, "file", "file.copy")]
+    (first / "SHA256SUMS").write_text("".join(sorted([*sums.splitlines(True), *lines], key=lambda line: line[66:])))
+    source(place, "a", choose.randbytes(800))
+    command = [PROGRAM, "encode", "--replace", store, place / "a"]
+    shutil.copytree(first, store)
+    for number in [number for number, kind in enumerate(calls.run(command).kinds, 1) if kind in ("create", "write")]:
+        shutil.rmtree(store)
+        shutil.copytree(first, store)
+        ended = calls.run(command, number, 28)
+        if ended.status and not [name for name in there(store) if STAGED in name]:
+            tried += 1
+            hold(not [name for name in sums_of(store) if STAGED in name], f"call {number}: {sums_of(store)}")
+    hold(tried, "no run took away what it had made")
 
 
 def test_short_files(place, choose):
