@@ -179,7 +179,7 @@ def main(names):
     # Those with the most edits are dealt out first, so that the runs take about as long.
     copies.sort(key=lambda it: -len(it.tried))
     runs = -(-len(copies) // AT_ONCE)
-    with concurrent.futures.ThreadPoolExecutor(max(1, build.processors() - 1)) as pool:
+    with concurrent.futures.ThreadPoolExecutor(build.processors()) as pool:
         ends = list(pool.map(try_copies, [copies[it::runs] for it in range(runs)]))
     refused, others = (sum(it) for it in zip(*ends, (0, 0)))
     tried = len({it.crate for it in copies})
