@@ -7,7 +7,7 @@ ghost use Rattle.std.specs.Prelude.{◌≡◌, vec_len};
 
 use destination::write_at;
 use output::write_out;
-use store_faults::{FileFault, say};
+use store_faults::FileFault;
 use store_files::{
     Fragments, Missing, Sought, StoredFile, descriptions_for_sure, descriptions_of,
     first_described, is_whole, open_fragments, set_that_fits, shares_fragment, staged_name,
@@ -51,7 +51,7 @@ pub fn read_file(
             return Err(fault);
         }
         let name = file.name;
-        let _ = say(
+        file.say(
             rt,
             format!(in rt.alloc();
                 "rebuild-store: {name}: was replaced meanwhile, and is read again"
