@@ -1,4 +1,6 @@
 //! Threads that work on stripes side by side, in the order of their losses: those that have lost most first.
+ghost use Rattle.std.specs.Prelude.{◌≡◌, IfOk};
+
 pub(crate) mod tasks;
 
 use crate::output::counters_file::CountersFile;
@@ -15,7 +17,7 @@ use store_opening::{OpenStore, Opening};
 use store_progress::{CountedReads, CountingFolder};
 use store_reading::{CopyWork, DescribedStripe, tend_descriptions};
 use store_repair::{
-    Found, Repair, Stripe, StripeOutcome, plan_stripe, repair_stripe, scrub_stripe,
+    Finding, Found, Reason, Repair, Stripe, StripeOutcome, plan_stripe, repair_stripe, scrub_stripe,
 };
 use store_reports::{Contents, Done, without_left, without_repeated};
 use tasks::{bytes_read, survivor_bytes};
@@ -278,13 +280,47 @@ fn outcome_of(
     stripe: &Stripe<'_>,
 ) -> Result<StripeOutcome, AllocError> {
     match work {
-        Work::Repair(repair) => repair_stripe(alloc, store, &repair, stripe),
+        Work::Repair(repair) => {
+            let outcome = repair_stripe(alloc, store, &repair, stripe)?;
+            with_unknown(stripe, outcome)
+        }
         Work::Plan(repair) => {
             let plan = plan_stripe(alloc, store, &repair, stripe)?;
             let said = plan.findings.len();
             let plan = without_left(alloc, &repair, stripe, plan)?;
-            without_repeated(alloc, plan, said)
+            let plan = without_repeated(alloc, plan, said)?;
+            with_unknown(stripe, plan)
         }
         Work::Scrub(code) => scrub_stripe(alloc, store, code, stripe),
     }
+}
+
+/// What became of a stripe, and which of the fragments that were rebuilt, or would be, can't be looked at: only in another folder than the
+/// store's are these rebuilt.
+fn with_unknown(stripe: &Stripe<'_>, outcome: StripeOutcome) -> Result<StripeOutcome, AllocError>
+    ensures { IfOk result (λ o. o.rebuilt ≡ outcome.rebuilt) }
+{
+    let StripeOutcome {
+        length,
+        survivors,
+        is_checked,
+        rebuilt,
+        findings,
+    } = outcome;
+    let mut findings = findings;
+    for place in &rebuilt {
+        let found = stripe.files.at(*place);
+        if matches!(found, Found::Unknown { .. }) {
+            let reason = Reason::of(found);
+            let place = Some(*place);
+            findings.push(Finding { place, reason })?;
+        }
+    }
+    Ok(StripeOutcome {
+        length,
+        survivors,
+        is_checked,
+        rebuilt,
+        findings,
+    })
 }

@@ -15,10 +15,11 @@ pub(crate) mod subfolders;
 pub(crate) mod sums;
 
 use crate::removing::has_any;
+use discarding::{after_discarding, discard_made};
 use fragments::{Encoded, make_encoded, source_digest};
 use lrc_code::{Code, Place};
 use ordering::place_stripe;
-use placing::{discard_all, first_of, is_there_already};
+use placing::is_there_already;
 use replacing::{finish_replacing, replace};
 use source::{is_changed, no_name, regular, stripe_name};
 use std::fs::Metadata;
@@ -133,14 +134,15 @@ pub(crate) fn encode_as<R: Threads + Sync>(
     let text = match description_of(rt, target.code, given, digest) {
         Ok(text) => text,
         Err(fault) => {
-            let removed = discard_all(rt, files, target.folder, made);
-            return Err(first_of(removed, fault));
+            let removed = discard_made(rt, given.progress, made);
+            return Err(after_discarding(rt, given.progress, fault, removed));
         }
     };
     place_stripe(
         rt,
         files,
         target,
+        given.progress,
         &names,
         fragment_bytes,
         made,

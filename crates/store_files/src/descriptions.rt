@@ -4,12 +4,12 @@ use crate::stored_file::StoredFile;
 use crate::target::Target;
 use lrc_code::{Code, Place, PlaceSet};
 use std::alloc::Global;
-use std::io::ErrorKind;
+use std::io::{self, ErrorKind};
 use std::{fs, mem};
 use store_faults::{FileFault, device};
 use store_folder::{
     Described, Links, description_names, first_description_name, is_absent, path_in,
-    read_description,
+    read_description, refuse_linked_folders,
 };
 use store_repair::lost_places;
 
@@ -235,7 +235,7 @@ fn description_at(
 ) -> Result<Option<Described>, FileFault> {
     let alloc = rt.alloc();
     let path = path_in(alloc, file.folder, copy)?;
-    match read_description(rt, path.as_str(), file.links) {
+    match description_below(rt, file, copy, path.as_str()) {
         Ok(Some(described)) => Ok(Some(described)),
         Ok(None) => Err(FileFault::Refused {
             what: format!(in alloc; "{path}: isn't a line with a length, a digest and a code")?,
@@ -243,4 +243,15 @@ fn description_at(
         Err(error) if is_absent(error.kind()) => Ok(None),
         Err(error) => Err(device(alloc, path.as_str(), error)),
     }
+}
+
+/// The description in the copy of a name in the store.
+fn description_below(
+    rt: &HostRuntime,
+    file: &StoredFile<'_, '_>,
+    copy: &str,
+    path: &str,
+) -> io::Result<Option<Described>> {
+    refuse_linked_folders(rt, file.folder, copy, file.links)?;
+    read_description(rt, path, file.links)
 }

@@ -132,7 +132,7 @@ pub(crate) fn gives_file(
 }
 
 /// Whether a file couldn't be had since memory was refused, also while a fragment was read or what it gives was digested.
-fn is_for_memory(fault: &MendFault) -> bool {
+pub fn is_for_memory(fault: &MendFault) -> bool {
     match fault {
         MendFault::OutOfMemory => true,
         MendFault::Several { .. } => false,

@@ -5,7 +5,9 @@ ghost use Rattle.lrc_code.specs.Codes.{tables_of};
 use lrc_code::{Code, Place};
 use std::alloc::{AllocError, Global};
 use store_faults::fragment_name;
-use store_folder::{Links, Pattern, Sums, description_names, first_description_name, path_in};
+use store_folder::{
+    Links, Pattern, SUMS_NAME, Sums, description_names, first_description_name, path_in,
+};
 
 /// A store that files are encoded into, and the digests of what is in it.
 #[derive(Drop)]
@@ -36,12 +38,13 @@ impl Target<'_> {
         Ok(names)
     }
 
-    /// Whether a stripe may have this name: its fragments then have names that lead nowhere out of the store.
+    /// Whether a stripe may have this name: its fragments then have names that lead nowhere out of the store, and none is that of the
+    /// digests.
     pub fn has_names(&self, alloc: Global, stripe: &str) -> Result<bool, AllocError> {
         for place in self.code.places() {
-            let name = self.pattern.name_of(alloc, self.code, stripe, *place)?;
-            if name.is_none() {
-                return Ok(false);
+            match self.pattern.name_of(alloc, self.code, stripe, *place)? {
+                Some(name) if name.as_str() != SUMS_NAME => {}
+                _ => return Ok(false),
             }
         }
         Ok(true)

@@ -24,7 +24,7 @@ pub fn expect_listed(
         }
     }
     for name in descriptions {
-        let is_of_store = expect_described(alloc, pattern, code, name, names)?;
+        let is_of_store = expect_described(alloc, sums, pattern, code, name, names)?;
         count = count.saturating_add(u64::from(is_of_store));
     }
     Ok(count)
@@ -34,6 +34,7 @@ pub fn expect_listed(
 /// known of the stripe that it would describe. Says whether it is the store's.
 fn expect_described(
     alloc: Global,
+    sums: &Sums,
     pattern: &Pattern<'_>,
     code: Code,
     name: &str,
@@ -44,12 +45,32 @@ fn expect_described(
     };
     let folder = folder_in(name);
     let is_of_stripe = folder.is_empty() || is_folder_of(alloc, pattern, code, stripe, folder)?;
+    // What is noted of stripes of other parts isn't known here, but the sums name their fragments.
+    let is_known = names.is_expected(stripe) || is_listed(alloc, sums, pattern, code, stripe)?;
     match pattern.read(code, name) {
-        Some((other, place)) if !is_of_stripe || !names.is_expected(stripe) => {
+        Some((other, place)) if !is_of_stripe || !is_known => {
             names.expect_fragment(alloc, other, place)?;
         }
         _ if is_of_stripe => names.expect_description(alloc, stripe)?,
         _ => return Ok(false),
     }
     Ok(true)
+}
+
+/// Whether sums name a fragment of a stripe.
+fn is_listed(
+    alloc: Global,
+    sums: &Sums,
+    pattern: &Pattern<'_>,
+    code: Code,
+    stripe: &str,
+) -> Result<bool, AllocError> {
+    for place in code.places() {
+        if let Some(name) = pattern.name_of(alloc, code, stripe, *place)? {
+            if sums.digest_of(name.as_str()).is_some() {
+                return Ok(true);
+            }
+        }
+    }
+    Ok(false)
 }

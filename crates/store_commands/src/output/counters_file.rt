@@ -1,13 +1,13 @@
 //! The file of `--progress`, which says how far a command is: when it is written anew, and what happens if it can't be.
 use crate::output::report_file::write_report;
-use std::alloc::Global;
+use std::alloc::{AllocError, Global};
 use std::io::{self, ErrorKind};
 use std::os::unix::fs::FileExt;
 use std::str;
 use std::sync::Arc;
 use std::sync::atomic::{AtomicU64, Ordering};
-use store_faults::{COUNTER_PREFIX, DEVICE, FileFault, StoreFault, say, words_of};
-use store_folder::{Links, RegularFile, open_regular};
+use store_faults::{COUNTER_PREFIX, FileFault, StoreFault, say, words_of};
+use store_folder::{Links, RegularFile, is_absent, open_regular};
 use store_progress::{Progress, Turns};
 
 /// The least time between two writes, in milliseconds.
@@ -64,8 +64,8 @@ impl<'a> CountersFile<'a> {
         write_report(rt, path, text.as_str())
     }
 
-    /// Writes the counters of a command that has ended so, if they are wanted, and gives its status: that a device failed if they can't be
-    /// written.
+    /// Writes the counters of a command that has ended so, if they are wanted, and gives its status: at least that of a failed device, if
+    /// they can't be written.
     pub(crate) fn end(
         &self,
         rt: &HostRuntime,
@@ -80,30 +80,40 @@ impl<'a> CountersFile<'a> {
         };
         match self.write(rt, path, Some(status)) {
             Ok(()) => ended,
-            Err(error) => unwritten(ended, say_unwritten(rt, path, error)),
+            Err(error) => Err(after_ending(rt, ended, unwritten(rt.alloc(), path, error))),
         }
     }
 }
 
 impl CountersFile<'_> {
     /// Ends a command that was refused before its store was open, and gives why. Its counters take the place of those of an earlier run of
-    /// the same alone: any other file at the path may be one of the store's.
+    /// the same alone: any other file at the path may be one of the store's. If they can't be written, or it can't be told what is at the
+    /// path, that is said too.
     pub(crate) fn end_refused(&self, rt: &HostRuntime, fault: FileFault) -> FileFault {
         let Some(path) = self.path else {
             return fault;
         };
-        if is_of_another(&fault) || !self.has_earlier(rt, path, &fault).unwrap_or(false) {
+        if is_of_another(&fault) {
             return fault;
         }
-        match self.write(rt, path, Some(fault.status())) {
+        match self.write_over_earlier(rt, path, &fault) {
             Ok(()) => fault,
-            Err(error) => match say_unwritten(rt, path, error) {
-                Ok(()) => fault,
-                Err(other) => {
-                    drop(fault);
-                    other
-                }
-            },
+            Err(error) => after_failing(rt, fault, unwritten(rt.alloc(), path, error)),
+        }
+    }
+
+    /// Writes the counters of a command that was refused so over those of an earlier run of the same, if these are at a path.
+    fn write_over_earlier(
+        &self,
+        rt: &HostRuntime,
+        path: &str,
+        fault: &FileFault,
+    ) -> io::Result<()> {
+        match self.has_earlier(rt, path, fault) {
+            Ok(true) => self.write(rt, path, Some(fault.status())),
+            Ok(false) => Ok(()),
+            Err(error) if is_of_none(error.kind()) => Ok(()),
+            Err(error) => Err(error),
         }
     }
 
@@ -163,6 +173,11 @@ fn is_status(line: &str) -> bool {
     counter.is_some_and(|counter| counter.starts_with("status{"))
 }
 
+/// Whether an error of this kind says that no regular file is at a path, or one that is shorter than counters.
+fn is_of_none(kind: ErrorKind) -> bool {
+    is_absent(kind) || kind == ErrorKind::InvalidInput || kind == ErrorKind::UnexpectedEof
+}
+
 /// The first bytes of a file, which has to have so many.
 fn first_bytes(alloc: Global, opened: &RegularFile, count: usize) -> io::Result<Vec<u8>> {
     let mut room = Vec::from_elem(alloc, 0u8, count)?;
@@ -170,29 +185,48 @@ fn first_bytes(alloc: Global, opened: &RegularFile, count: usize) -> io::Result<
     Ok(room)
 }
 
-/// Says that counters can't be written.
-fn say_unwritten(rt: &HostRuntime, path: &str, error: io::Error) -> Result<(), FileFault> {
+/// That counters can't be written.
+fn unwritten(alloc: Global, path: &str, error: io::Error) -> FileFault {
     if error.kind() == ErrorKind::OutOfMemory {
-        return Err(FileFault::OutOfMemory);
+        return FileFault::OutOfMemory;
     }
-    let why = words_of(rt.alloc(), &error)?;
-    say(
-        rt,
-        format!(in rt.alloc(); "rebuild-store: {path}: the counters can't be written: {why}"),
-    )?;
-    Ok(())
+    match unwritten_words(alloc, path, &error) {
+        Ok(fault) => fault,
+        Err(AllocError) => FileFault::OutOfMemory,
+    }
 }
 
-/// How a command ended whose counters couldn't be written, which was said or couldn't be.
-fn unwritten(ended: Result<u8, FileFault>, said: Result<(), FileFault>) -> Result<u8, FileFault> {
+/// The same, with the words of the system.
+fn unwritten_words(alloc: Global, path: &str, error: &io::Error) -> Result<FileFault, AllocError> {
+    let why = words_of(alloc, error)?;
+    Ok(FileFault::Device {
+        path: String::from_str(alloc, path)?,
+        error: format!(in alloc; "the counters can't be written: {why}")?,
+    })
+}
+
+/// How a command ended whose counters couldn't be written.
+fn after_ending(rt: &HostRuntime, ended: Result<u8, FileFault>, unwritten: FileFault) -> FileFault {
+    match ended {
+        Ok(_) => unwritten,
+        Err(fault) => after_failing(rt, fault, unwritten),
+    }
+}
+
+/// Of why a command failed, and why its counters couldn't be written, says the one, and gives the other: that with the higher status.
+fn after_failing(rt: &HostRuntime, fault: FileFault, unwritten: FileFault) -> FileFault {
+    let (first, last) = if unwritten.status() < fault.status() {
+        (unwritten, fault)
+    } else {
+        (fault, unwritten)
+    };
+    let said = say(rt, format!(in rt.alloc(); "rebuild-store: {first}"));
+    drop(first);
     match said {
-        Ok(()) => match ended {
-            Ok(_) => Ok(DEVICE),
-            Err(fault) => Err(fault),
-        },
-        Err(fault) => {
-            drop(ended);
-            Err(fault)
+        Ok(()) => last,
+        Err(AllocError) => {
+            drop(last);
+            FileFault::OutOfMemory
         }
     }
 }

@@ -58,7 +58,7 @@ fn place_description<F: Folder>(
         text.len() as u64,
         made,
     )?;
-    sync_names(rt, files, touched)
+    sync_names(rt, files, None, touched)
 }
 
 /// A new file with a text, which isn't there after a failure.

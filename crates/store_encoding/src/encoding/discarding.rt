@@ -1,11 +1,13 @@
-//! Taking away what a run has made of a stripe that was to replace another one, where it then failed.
+//! Taking away what a run has made, where it then failed: new files, and what there is of a stripe that was to replace another one.
+use crate::encoding::placing::Made;
 use crate::encoding::stripe_files::StripeFiles;
 use crate::encoding::sums::forget_digests;
 use crate::removing::{has_any, remove_names};
-use std::slice;
-use store_faults::{FileFault, say};
+use std::alloc::{AllocError, Global};
+use std::{io, slice};
+use store_faults::{FileFault, say, words_of};
 use store_files::{Target, refuse_linked};
-use store_folder::SystemFolder;
+use store_folder::{NewFile, SystemFolder};
 use store_progress::Progress;
 
 /// Takes away what there is of a stripe that was to replace another one: first its descriptions, each that can be taken, since one alone
@@ -64,6 +66,71 @@ fn take_one(rt: &HostRuntime, target: &mut Target<'_>, name: &String) -> Result<
         }
     }
     taken
+}
+
+/// Removes new files, all that can be removed. Of those that can't be each is said but the last, which is given.
+pub(crate) fn discard_files(
+    rt: &HostRuntime,
+    progress: &Progress,
+    files: Vec<NewFile>,
+) -> Result<(), FileFault> {
+    let mut left = None;
+    for file in files {
+        left = last_left(rt, progress, left, discard_file(rt, file));
+    }
+    left.map_or(Ok(()), Err)
+}
+
+/// The same of files whose digests are known.
+pub(crate) fn discard_made(
+    rt: &HostRuntime,
+    progress: &Progress,
+    made: Vec<Made>,
+) -> Result<(), FileFault> {
+    let mut left = None;
+    for one in made {
+        left = last_left(rt, progress, left, discard_file(rt, one.file));
+    }
+    left.map_or(Ok(()), Err)
+}
+
+/// Removes a new file.
+fn discard_file(rt: &HostRuntime, file: NewFile) -> Result<(), FileFault> {
+    let path = String::from_str(rt.alloc(), file.path());
+    match file.discard(rt) {
+        Ok(()) => {
+            drop(path);
+            Ok(())
+        }
+        Err(error) => Err(left_over(rt.alloc(), path?, &error)?),
+    }
+}
+
+/// That the file at a path can't be removed.
+fn left_over(alloc: Global, path: String, error: &io::Error) -> Result<FileFault, AllocError> {
+    let why = words_of(alloc, error)?;
+    Ok(FileFault::Device {
+        path,
+        error: format!(in alloc; "is left over, and can't be removed: {why}")?,
+    })
+}
+
+/// The last of the files that can't be removed, by what became of one more. Another one that was the last before is said.
+fn last_left(
+    rt: &HostRuntime,
+    progress: &Progress,
+    left: Option<FileFault>,
+    removed: Result<(), FileFault>,
+) -> Option<FileFault> {
+    let Err(fault) = removed else {
+        return left;
+    };
+    if let Some(before) = left {
+        progress.clear(rt);
+        let _ = say(rt, format!(in rt.alloc(); "rebuild-store: {before}"));
+        drop(before);
+    }
+    Some(fault)
 }
 
 /// Of why a run failed, and why what it had made couldn't be taken away, says the one, and gives the other: that with the higher status,

@@ -6,7 +6,8 @@ ghost use Rattle.store_folder.specs.Placed.{content_of};
 ghost use Rattle.store_repair.specs.Mended.{AreEmpty};
 
 use crate::encoding::Given;
-use crate::encoding::placing::{Made, discard_all, first_of};
+use crate::encoding::discarding::{after_discarding, discard_files, discard_made};
+use crate::encoding::placing::Made;
 use folders::Folder;
 use lrc_code::Place;
 use std::alloc::{AllocError, Global};
@@ -18,7 +19,7 @@ use store_folder::{
     Digest, FileFragment, Links, NewFile, SystemFolder, SystemOpen, create_new, digest_of,
     digests_of, folder_of, open_fragment, refuse_linked_folders,
 };
-use store_progress::CountedSource;
+use store_progress::{CountedSource, Progress};
 use store_repair::{Fragment, MendFault, encode, fragment_length};
 
 /// What is made of a file before anything gets a name: its digest, and its fragments.
@@ -45,8 +46,8 @@ pub(crate) fn make_encoded<R: Threads + Sync>(
     match digest {
         Ok(digest) => Ok(Encoded { digest, made }),
         Err(fault) => {
-            let removed = discard_all(rt, &mut SystemFolder::new(rt), target.folder, made);
-            Err(first_of(removed, fault))
+            let removed = discard_made(rt, given.progress, made);
+            Err(after_discarding(rt, given.progress, fault, removed))
         }
     }
 }
@@ -105,10 +106,13 @@ fn make_from<F: Fragment>(
 ) -> Result<Vec<Made>, FileFault> {
     // Taken before there are files, so that none is left where memory is refused.
     let made = Vec::with_capacity(rt.alloc(), target.code.places().len())?;
-    let mut files = new_files(rt, target, name)?;
+    let mut files = new_files(rt, target, name, given.progress)?;
     match fill(rt, target, name, given, source, files.as_mut_slice()) {
         Ok(digests) => Ok(all_made(made, files, digests)?),
-        Err(fault) => Err(first_of(discard_files(rt, target, files), fault)),
+        Err(fault) => {
+            let removed = discard_files(rt, given.progress, files);
+            Err(after_discarding(rt, given.progress, fault, removed))
+        }
     }
 }
 
@@ -148,7 +152,12 @@ fn fill<F: Fragment>(
 
 /// A new file for each fragment of a stripe, in the folder that the fragment is to be in. Where one is refused, the others are removed
 /// again.
-fn new_files(rt: &HostRuntime, target: &Target<'_>, stripe: &str) -> Result<Vec<NewFile>, FileFault>
+fn new_files(
+    rt: &HostRuntime,
+    target: &Target<'_>,
+    stripe: &str,
+    progress: &Progress,
+) -> Result<Vec<NewFile>, FileFault>
     ensures length { IfOk result (λ v. vec_len v ≡ length (tables_of target.now.code).places) }
     ensures empty { IfOk result (λ v. AreEmpty content_of v.items) }
 {
@@ -158,7 +167,10 @@ fn new_files(rt: &HostRuntime, target: &Target<'_>, stripe: &str) -> Result<Vec<
     'files: while files.len() < places.len() {
         match new_file_at(rt, target, stripe, places[files.len()]) {
             Ok(file) => files.push(file)?,
-            Err(fault) => return Err(first_of(discard_files(rt, target, files), fault)),
+            Err(fault) => {
+                let removed = discard_files(rt, progress, files);
+                return Err(after_discarding(rt, progress, fault, removed));
+            }
         }
     }
     Ok(files)
@@ -186,22 +198,6 @@ fn new_file_at(
     ) {
         Ok(file) => Ok(file),
         Err(error) => Err(device(alloc, folder, unmade(error))),
-    }
-}
-
-/// Removes new files, all that can be removed.
-fn discard_files(
-    rt: &HostRuntime,
-    target: &Target<'_>,
-    files: Vec<NewFile>,
-) -> Result<(), FileFault> {
-    let mut done: io::Result<()> = Ok(());
-    for file in files {
-        done = file.discard(rt).and(done);
-    }
-    match done {
-        Ok(()) => Ok(()),
-        Err(error) => Err(device(rt.alloc(), target.folder, error)),
     }
 }
 

@@ -179,7 +179,7 @@ fn write(rt: &HostRuntime, target: &mut Target<'_>, copy: &NewCopy<'_>) -> Resul
     let mut touched = Touched::new(alloc);
     let length = copy.text.len() as u64;
     place_one(rt, files, target, &mut touched, copy.name, length, made)?;
-    sync_names(rt, files, touched)
+    sync_names(rt, files, None, touched)
 }
 
 /// A new file in a folder with the text of a copy, which isn't there after a failure.

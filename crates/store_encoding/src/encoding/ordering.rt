@@ -8,6 +8,7 @@ use crate::encoding::stripe_files::StripeFiles;
 use folders::Folder;
 use store_faults::FileFault;
 use store_files::Target;
+use store_progress::Progress;
 
 /// Gives the fragments of a stripe, of so many bytes each, their names, and once these are on the disk writes its descriptions. What is
 /// there with the same bytes stays; where something else has one of the fragments' names, none gets its own. Whenever that ends, each path
@@ -17,6 +18,7 @@ pub(crate) fn place_stripe<F: Folder>(
     rt: &HostRuntime,
     files: &mut F,
     target: &mut Target<'_>,
+    progress: &Progress,
     names: &StripeFiles,
     length: usize,
     made: Vec<Made<F::New>>,
@@ -29,7 +31,15 @@ pub(crate) fn place_stripe<F: Folder>(
     ensures descriptions { OnOk result (AreThere target.old.folder.now names.now.descriptions.items
         (each_has names.now.descriptions.items text.now) (F.calls files.new)) }
 {
-    match place_fragments(rt, files, target, names.fragments.as_slice(), length, made) {
+    match place_fragments(
+        rt,
+        files,
+        target,
+        progress,
+        names.fragments.as_slice(),
+        length,
+        made,
+    ) {
         Ok(()) => place_descriptions(rt, files, target, names.descriptions.as_slice(), text),
         Err(fault) => Err(fault),
     }

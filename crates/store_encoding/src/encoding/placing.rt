@@ -9,9 +9,14 @@ ghost use Rattle.store_encoding.specs.Encoded.{AreDone, AreThere, GivesEach, IsD
 use crate::refusing::refused;
 use folders::{Folder, SystemNew};
 use std::io::{self, ErrorKind};
-use store_faults::{FileFault, device};
+use store_faults::{FileFault, device, say};
 use store_files::{Target, digest_at, is_there};
 use store_folder::{Digest, Links, NewFile, Placed, Touched, discard_new, folder_of, place_new};
+use store_progress::Progress;
+use store_repair::NameFault;
+
+/// In so many folders a stripe's fragments are at most.
+const MOST_FOLDERS: usize = 16;
 
 /// A new file, whole, and its digest.
 #[derive(Drop)]
@@ -36,7 +41,7 @@ pub(crate) fn is_there_already(rt: &HostRuntime, name: &str) -> FileFault {
 }
 
 /// Removes new files, all that can be removed.
-pub(crate) fn discard_all<F: Folder>(
+fn discard_all<F: Folder>(
     rt: &HostRuntime,
     files: &mut F,
     folder: &str,
@@ -55,7 +60,7 @@ pub(crate) fn discard_all<F: Folder>(
 }
 
 /// Why new files couldn't be removed, if they couldn't, or else why they were to be.
-pub(crate) fn first_of(removed: Result<(), FileFault>, fault: FileFault) -> FileFault {
+fn first_of(removed: Result<(), FileFault>, fault: FileFault) -> FileFault {
     match removed {
         Ok(()) => fault,
         Err(other) => {
@@ -90,6 +95,7 @@ pub(crate) fn place_fragments<F: Folder>(
     rt: &HostRuntime,
     files: &mut F,
     target: &mut Target<'_>,
+    progress: &Progress,
     names: &[String],
     length: usize,
     made: Vec<Made<F::New>>,
@@ -99,7 +105,7 @@ pub(crate) fn place_fragments<F: Folder>(
     ensures done { OnOk result (AreThere target.old.folder.now names.now (contents_of made.items) (F.calls files.new)) }
 {
     match first_taken(rt, target, names, length, made.as_slice()) {
-        Ok(None) => place_each(rt, files, target, names, length, made),
+        Ok(None) => place_each(rt, files, target, progress, names, length, made),
         Ok(Some(name)) => {
             let removed = discard_all(rt, files, target.folder, made);
             Err(first_of(removed, is_there_already(rt, name)))
@@ -113,6 +119,7 @@ fn place_each<F: Folder>(
     rt: &HostRuntime,
     files: &mut F,
     target: &mut Target<'_>,
+    progress: &Progress,
     names: &[String],
     length: usize,
     made: Vec<Made<F::New>>,
@@ -142,14 +149,16 @@ fn place_each<F: Folder>(
     }
     match refused {
         Some(fault) => Err(fault),
-        None => sync_names(rt, files, touched),
+        None => sync_names(rt, files, Some(progress), touched),
     }
 }
 
-/// Writes names that were given to the disk.
+/// Writes names that were given to the disk. Of several folders that can't be written all but the one that is given are said, in place of
+/// the line that shows how far the command is, if there is one.
 pub(crate) fn sync_names<F: Folder>(
     rt: &HostRuntime,
     files: &mut F,
+    progress: Option<&Progress>,
     touched: Touched,
 ) -> Result<(), FileFault>
     ensures whenever { KeepsEach (F.calls files.old) (F.calls files.new) }
@@ -158,8 +167,50 @@ pub(crate) fn sync_names<F: Folder>(
     let mut touched = touched;
     match touched.sync(files) {
         Ok(()) => Ok(()),
-        Err(fault) => Err(device(rt.alloc(), fault.name.as_str(), fault.error)),
+        Err(fault) => {
+            say_rest(rt, files, progress, &mut touched);
+            Err(unsynced(rt, fault))
+        }
     }
+}
+
+/// Says which other folders couldn't be written to the disk, once one couldn't.
+fn say_rest<F: Folder>(
+    rt: &HostRuntime,
+    files: &mut F,
+    progress: Option<&Progress>,
+    touched: &mut Touched,
+)
+    ensures { KeepsEach (F.calls files.old) (F.calls files.new) }
+{
+    'folders: for _more in 0..MOST_FOLDERS {
+        say_next(rt, files, progress, touched);
+    }
+}
+
+/// Says the next of them, if there is one.
+fn say_next<F: Folder>(
+    rt: &HostRuntime,
+    files: &mut F,
+    progress: Option<&Progress>,
+    touched: &mut Touched,
+)
+    ensures { KeepsEach (F.calls files.old) (F.calls files.new) }
+{
+    if let Err(fault) = touched.sync(files) {
+        if let Some(progress) = progress {
+            progress.clear(rt);
+        }
+        let fault = unsynced(rt, fault);
+        let _ = say(rt, format!(in rt.alloc(); "rebuild-store: {fault}"));
+        drop(fault);
+    }
+}
+
+/// That a folder couldn't be written to the disk.
+fn unsynced(rt: &HostRuntime, fault: NameFault) -> FileFault {
+    let NameFault { name, error } = fault;
+    device(rt.alloc(), name.as_str(), error)
 }
 
 /// The first of the names under which there is another file than the one at its index.

@@ -8,6 +8,7 @@ use std::io::{self, ErrorKind};
 use store_faults::{Copies, CopyState, FoundCopy};
 use store_folder::{
     Site, description_names, first_description_name, look_at, path_in, read_description,
+    refuse_linked_folders,
 };
 
 /// The copies of a stripe's description that are there, or should be.
@@ -60,7 +61,7 @@ impl Seen {
         is_wanted: bool,
     ) -> Result<(), AllocError> {
         let path = path_in(rt.alloc(), site.folder, name.as_str())?;
-        let state = state_at(rt, site, path.as_str())?;
+        let state = state_of(rt, site, name.as_str(), path.as_str())?;
         if let (CopyState::There(..), None) = (&state, &self.like) {
             self.like = fs::metadata(rt, path.as_str())
                 .ok()
@@ -75,6 +76,20 @@ impl Seen {
             is_wanted,
         })?;
         Ok(())
+    }
+}
+
+/// What is of a copy of a name, at a path. Behind a link in place of its folder is nothing, unless links are followed.
+fn state_of(
+    rt: &HostRuntime,
+    site: &Site<'_>,
+    name: &str,
+    path: &str,
+) -> Result<CopyState, AllocError> {
+    match refuse_linked_folders(rt, site.folder, name, site.links) {
+        Err(error) if error.kind() == ErrorKind::OutOfMemory => Err(AllocError),
+        Err(error) if error.kind() == ErrorKind::InvalidInput => Ok(CopyState::Absent),
+        _ => state_at(rt, site, path),
     }
 }
 
