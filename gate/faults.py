@@ -97,11 +97,11 @@ class Calls:
             self.file.write_bytes(built())
         self.library = runs.Preloaded(self.file, "FAIL_RECORD", RECORD_SIZE, forks)
 
-    def run(self, words, number=0, how="", rest="", output=None):
-        """Runs the program to its end, where the call of this number fails in this way."""
+    def run(self, words, number=0, how="", rest="", output=None, given=None):
+        """Runs the program to its end, where the call of this number fails in this way. What is given is all of its standard input."""
         settings = {"FAIL_NUMBER": str(number), "FAIL_HOW": str(how), "FAIL_REST": rest}
         with ending(words):
-            ran = self.library.run([str(it) for it in words], settings, SECONDS, output=output)
+            ran = self.library.run([str(it) for it in words], settings, SECONDS, given, output)
         counts, calls, _ = COUNTS.unpack_from(ran.record)
         hold(counts == 1, f"nothing counted the calls of {words[0]}")
         hold(calls <= MOST_CALLS, f"{words[0]} makes {calls} calls")

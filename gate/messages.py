@@ -17,6 +17,8 @@ LEFT_OUT = {"progress.rt", "tasks.rt"}
 PARTS = {" (os error ", "can be made", "would be rebuilt", "standard output", "standard output: <>", "standard input", "Max file size",
          ", with --replace-damaged ", "; left without --replace-damaged: <>", "the survivors don't determine the fragment",
          "a run that isn't known", "a survivor can't be read: <>", "a rebuilt fragment can't be written: <>"}
+# Texts of the standard library's errors; gate/store-refusals.py has a run say each.
+OF_LIBRARY = {"unexpected end of file", "stream did not contain valid UTF-8", "entity already exists", "invalid input parameter"}
 LITERAL = r'"((?:[^"\\]|\\[\s\S])*)"'
 HELP = rf"(?:const \w*(?:HELP|ABOUT): &str =|\bhelp:)\s*{LITERAL}[;,]"
 
@@ -53,7 +55,7 @@ def explained():
 
 
 def main():
-    known = set(texts())
+    known = {*texts(), *OF_LIBRARY}
     said = {it for it in known if re.search(r"[a-z]{2,}\W* \W*[a-z]{2,}", it.replace("<>", "")) and not it.startswith("{")}
     page = [*explained()]
     wrong = [f"the page has what no source says: {it}" for it in page if it not in known]

@@ -481,6 +481,7 @@ def main(program=None, only=""):
     PROGRAM = pathlib.Path(program or PROGRAM).resolve()
     choose = random.Random(2026)
     tests = [value for name, value in globals().items() if name.startswith("test_") and only in name]
+    tests = [globals()[only]] if only in globals() else tests
     with tempfile.TemporaryDirectory() as scratch:
         for test in tests:
             place = pathlib.Path(scratch) / test.__name__

@@ -8,6 +8,7 @@ Each expected byte is worked out here, and what a run that was killed leaves is 
 form alone."""
 
 import concurrent.futures
+import errno
 import functools
 import hashlib
 import json
@@ -2969,6 +2970,94 @@ def test_replace_through_a_linked_folder(place, choose):
         shutil.rmtree(outside)
 
 
+def test_standard_input_on_a_disk_that_fails(place, choose):
+    """Standard input that can't be kept whole isn't encoded: each write of it that fails is said, and nothing of it is left."""
+    first, store, data, tried = place / "first", place / "store", choose.randbytes(60_000), 0
+    run("encode", first, source(place, "a", b"other"), status=0)
+    shutil.copytree(first, store)
+    before, calls, command = there(store), Calls(place, forks=True), [PROGRAM, "encode", store, "-", "--as", "in"]
+    kinds = calls.run(command, given=data).kinds
+    hold(decoded(store, "in") == data, "standard input isn't what it was")
+    for number, kind in enumerate(kinds[: kinds.index("link")], 1):
+        if kind in ("create", "write"):
+            shutil.rmtree(store)
+            shutil.copytree(first, store)
+            ended = calls.run(command, number, errno.ENOSPC, given=data)
+            if ended.paths[0].startswith(str(store)):
+                tried += 1
+                hold(ended.status == 3 and "No space left on device" in ended.err, f"call {number}: {ended.text()}")
+                hold(there(store) == before, f"call {number}: left {sorted(there(store))}")
+    hold(tried > 3, f"{tried} calls")
+
+
+def test_folders_of_a_replacement_that_fails(place, choose):
+    """What replaces a file whose names are in a folder of its own leaves no folder where it fails, and those that were there stay."""
+    names, store = ["--names", "{stripe}/{place}"], place / "store"
+    run("encode", "--make-folders", *names, store, source(place, "a", choose.randbytes(900)), status=0)
+    (store / "empty").mkdir()
+    before, folders, calls = there(store), sorted(path for path in store.rglob("*") if path.is_dir()), Calls(place, forks=True)
+    command, again = [PROGRAM, "encode", "--replace", *names, store, source(place, "a", choose.randbytes(5_000))], place / "again"
+    shutil.copytree(store, again)
+    kinds = calls.run([again if it == store else it for it in command]).kinds
+    # At the last of these links nine fragments have their names.
+    links = [number for number, kind in enumerate(kinds, 1) if kind == "link"][:10]
+    writes = [number for number, kind in enumerate(kinds[: links[0]], 1) if kind in ("create", "write", "sync")]
+    for number in [*writes[1::5], *links]:
+        ended = calls.run(command, number, errno.ENOSPC)
+        hold(ended.status == 3, f"call {number}: {ended.text()}")
+        hold(there(store) == before, f"call {number}: {sorted(there(store))}")
+        hold(sorted(path for path in store.rglob("*") if path.is_dir()) == folders, f"call {number}: {sorted(store.rglob('*'))}")
+
+
+def test_verify_beside_stripes_of_other_software(place, choose):
+    """What no description describes is no file: it isn't verified, and neither counted nor named."""
+    store, data = place / "store", choose.randbytes(900)
+    run("encode", store, source(place, "a", data), status=0)
+    for path in [*store.glob("a.??")]:
+        shutil.copyfile(path, store / path.name.replace("a.", "other."))
+    out, err = run("verify", store, status=0)
+    hold(out == b"verified 1 file; not as described: 0\n" and err == "", f"{out!r} {err}")
+    for path in store.glob("other.x?"):
+        path.unlink()
+    out, err = run("verify", store, status=0)
+    hold(out == b"verified 1 file; not as described: 0\n" and err == "", f"{out!r} {err}")
+
+
+def test_replacement_of_which_most_descriptions_say_another_code(place, choose):
+    """What was begun is ended by the description whose fragments are all there, whatever other copies say and how many they are."""
+    names = ["--names", "disk{shard}/{stripe}"]
+    for many in (1, 5, 9):
+        store, _, new = begun_replacement(place, choose, *names)
+        wide = description_of(choose.randbytes(40), "12-2-2")
+        # The first copy alone says which code the store's names are of.
+        for number in range(10 - many, 10):
+            (store / f"disk{number}/a{STAGED}.file").write_bytes(wide)
+        run("encode", "--replace", *names, store, source(place, "a", new), status=0)
+        hold(decoded(store, "a", *names[1:]) == new, f"{many}: not the new file")
+        hold(not [path for path in there(store) if STAGED in path], f"{many}: {sorted(there(store))}")
+        shutil.rmtree(store)
+
+
+def test_encode_beside_what_cannot_be_removed(place, choose):
+    """What a killed run has left and can't be removed is said by a run that encodes, with the status of a device, and the file is there."""
+    first, store, calls = place / "first", place / "store", Calls(place, forks=True)
+    run("encode", first, source(place, "a", b"other"), status=0)
+    (first / LEFTOVER).write_bytes(b"half")
+    data, left, tried = choose.randbytes(500), store / LEFTOVER, 0
+    command = [PROGRAM, "encode", store, source(place, "b", data)]
+    shutil.copytree(first, store)
+    for number, kind in enumerate(calls.run(command).kinds, 1):
+        if kind == "unlink":
+            shutil.rmtree(store)
+            shutil.copytree(first, store)
+            ended = calls.run(command, number, errno.EIO)
+            if ended.paths == (str(left),):
+                tried += 1
+                said = f"{left}: is left over, and can't be removed: Input/output error\n"
+                hold(ended.status == 3 and said in ended.err and left.exists() and decoded(store, "b") == data, ended.text())
+    hold(tried == 1, f"{tried} calls")
+
+
 def tried(place, name):
     """Runs a test, and gives how many checks passed, why it failed, and why it was left out."""
     global passed
@@ -2987,7 +3076,7 @@ def tried(place, name):
 def main(program=None, only=""):
     global PROGRAM
     PROGRAM = pathlib.Path(program or PROGRAM).resolve()
-    tests = [name for name in globals() if name.startswith("test_") and only in name]
+    tests = [only] if only in globals() else [name for name in globals() if name.startswith("test_") and only in name]
     with tempfile.TemporaryDirectory() as scratch, multiprocessing.get_context("fork").Pool(maxtasksperchild=1) as pool:
         place = pathlib.Path(scratch)
         place.chmod(0o755)
