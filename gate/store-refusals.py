@@ -1,7 +1,7 @@
 #!/usr/bin/env python3
 """Tries how rebuild-store ends, and what it names, where the system refuses something of which it does the rest: memory for a description
 that fragments give, a look at a fragment that goes to another folder, folders' names on the disk, counters; and where links lead that
-aren't followed.
+aren't followed, and what else is there that is no fragment.
 
     store-refusals.py [PROGRAM [TEST]]
 
@@ -368,6 +368,24 @@ def test_words_of_the_library(place, choose):
     (store / "a.file").symlink_to("../.rebuild-store-0123456789abcdef")
     _, err = run("repair", "--follow-links", store, status=DEVICE)
     hold("a.file: can't be put in its place: invalid input parameter\n" in err, err)
+
+
+def test_too_few_beside_what_is_no_file(place, choose):
+    """Of a file of which more is lost than the code gives back that is said also where what is lost is no regular file, or has another
+    length: no disk is at fault."""
+    out, lost = place / "out", ["x0", "x1", "x2", "y0", "y1"]
+    for kind, make in (("folder", os.mkdir), ("fifo", os.mkfifo), ("link", lambda path: path.symlink_to(place / "a")),
+                       ("short", lambda path: path.write_bytes(b"short"))):
+        store = encoded(place, choose.randbytes(5_000), name=kind)
+        for name in lost:
+            (store / f"a.{name}").unlink()
+        make(store / "a.x0")
+        for words in (["read", store, "a"], ["read", "-o", out, store, "a"], ["verify", "-q", store, "a"]):
+            written, err = run(*words, status=LEFT)
+            *_, last = err.splitlines()
+            hold(re.findall(r"^rebuild-store: a\.(..): left out: ", err, re.M) == lost, f"{words}: {err}")
+            hold(last == "rebuild-store: a: the fragments that are there don't give the file that a.file describes", f"{words}: {err}")
+            hold(written == "" and not out.exists(), f"{words}: something was written")
 
 
 def tried(place, name):
