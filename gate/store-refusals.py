@@ -388,6 +388,29 @@ def test_too_few_beside_what_is_no_file(place, choose):
             hold(written == "" and not out.exists(), f"{words}: something was written")
 
 
+def test_each_fragment_that_cannot_be_looked_at(place, choose):
+    """Lists name each fragment of a stripe that can't be looked at, with the status of a device."""
+    store, unknown = encoded(place, choose.randbytes(5_000)), ["a.x0", "a.y1", "a.p1"]
+    for name in unknown:
+        (store / name).unlink()
+        (store / name).symlink_to(name)
+    looped = [f"rebuild-store: {name}: can't be looked at: {os.strerror(errno.ELOOP)}" for name in unknown]
+    out, err = run("list", "--follow-links", store, status=DEVICE)
+    hold((out, err.splitlines()) == ("degraded 5000 6-2-2 7/10 a\n", [*looped, "1 file; not whole: 1"]), f"list: {out}, {err}")
+    out, err = run("lost", "--follow-links", store, status=DEVICE)
+    rows = [f"rebuild,a,{name.removeprefix('a.')},834,x1 x2 y0 y2 px py p0" for name in unknown]
+    hold(out.splitlines() == ["order,stripe,target,length,survivors", *rows], out)
+    hold(err.splitlines() == [*looped, "1 stripe; 3 fragments lost, 0 of them not in the list"], err)
+    # Of a stripe whose length isn't known either.
+    for path in store.iterdir():
+        if path.name not in unknown:
+            path.unlink()
+    (place / "names").write_text("a\n")
+    for command in ("list", "lost"):
+        _, err = run(command, "--follow-links", "--stripes", place / "names", store, status=DEVICE)
+        hold([line for line in err.splitlines() if "looked at" in line] == looped, f"{command}: {err}")
+
+
 def tried(place, name):
     """Runs a test, and gives why it failed."""
     folder = place / name
