@@ -411,6 +411,28 @@ def test_each_fragment_that_cannot_be_looked_at(place, choose):
         hold([line for line in err.splitlines() if "looked at" in line] == looped, f"{command}: {err}")
 
 
+def test_plan_around_a_stripe_without_a_length(place, choose):
+    """The last line of a dry run leaves out a stripe whose fragments have two lengths, and counts those before and after it."""
+    names, store = ("a", "b", "c"), place / "store"
+    for name in names:
+        (place / name).write_bytes(choose.randbytes(6 * 600))
+    for without in names:
+        shutil.rmtree(store, ignore_errors=True)
+        run("encode", store, *[place / name for name in names])
+        for path in [*store.glob("*.file*"), store / "SHA256SUMS"]:
+            path.unlink()
+        for name in names:
+            if name != without:
+                (store / f"{name}.x0").unlink()
+        for short in ("x0", "x1", "y0", "p0", "p1"):
+            os.truncate(store / f"{without}.{short}", 300)
+        # Three others of its group are read for each of the two that are lost.
+        out, err = run("repair", "--reads", "few", "-n", store, status=LEFT)
+        hold(out == "3 stripes of 6-2-2, 600 bytes; 2 lost in 2; 2 can be rebuilt (2 unchecked), 1 can't; reads 3.5 KiB, writes 1.1 KiB\n",
+             f"{without}: {out}")
+        hold(err.startswith(f"{without}: its fragments have different lengths"), f"{without}: {err}")
+
+
 def tried(place, name):
     """Runs a test, and gives why it failed."""
     folder = place / name
