@@ -411,6 +411,22 @@ def test_names_like_keys(place, choose):
         hold(names <= set(there(store)), f"{pattern}: {sorted(there(store))}")
 
 
+def test_places_of_the_wider_code_that_cannot_be_looked_at(place, choose):
+    """No file is encoded while it isn't known whether there is a fragment of it at a place that its code hasn't, and nothing is put into the
+    store."""
+    names, store = ["--names", "{place}/{stripe}", "--code", "6-2-2"], place / "store"
+    run("encode", "--make-folders", *names, store, source(place, "a", choose.randbytes(90)), status=0)
+    files, file = there(store), source(place, "b", choose.randbytes(100))
+    for each in ("x3", "y5"):
+        (store / each).symlink_to(each)
+        for words in ([], ["--replace"], ["--follow-links"]):
+            said = run("encode", *words, *names, store, file, status=3)
+            hold("Too many levels of symbolic links" in said and there(store) == files, f"{each}, {words}: {said}{sorted(there(store))}")
+        (store / each).unlink()
+    run("encode", *names, store, file, status=0)
+    hold(set(there(store)) > set(files), f"{sorted(there(store))}")
+
+
 def fill(fifo):
     """Writes to a FIFO until it takes no more."""
     try:
