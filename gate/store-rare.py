@@ -427,6 +427,18 @@ def test_places_of_the_wider_code_that_cannot_be_looked_at(place, choose):
     hold(set(there(store)) > set(files), f"{sorted(there(store))}")
 
 
+def test_files_named_as_descriptions_of_nothing(place, choose):
+    """A file that is named as a description and isn't one makes no file of the store that is read back, unless there are fragments of it."""
+    store = place / "store"
+    run("encode", store, source(place, "a", choose.randbytes(300)), status=0)
+    lay_files(store, {name: b"a line of other software\n" for name in ("b.file", "c.file.copy", "d.file", "d.file.copy", "c.x0")})
+    said = run("verify", store, status=0)
+    hold(said == "verified 1 file; not as described: 0\n", said)
+    lay_files(store, {f"b.{each}": (store / f"a.{each}").read_bytes() for each in PLACES})
+    said = run("verify", store, status=1)
+    hold("b.file: isn't a line with a length, a digest and a code\nverified 1 file; not as described: 1\n" in said, said)
+
+
 def fill(fifo):
     """Writes to a FIFO until it takes no more."""
     try:
