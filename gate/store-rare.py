@@ -439,6 +439,24 @@ def test_files_named_as_descriptions_of_nothing(place, choose):
     hold("b.file: isn't a line with a length, a digest and a code\nverified 1 file; not as described: 1\n" in said, said)
 
 
+def test_fragments_that_many_links_lead_to(place, choose):
+    """A fragment is made where its links lead, but not where they lead to more than 16 others, though the system would follow these: nothing
+    changes then."""
+    for many in (10, 20):
+        store, behind = place / f"store-{many}", place / f"behind-{many}"
+        files = lay(store, choose)
+        behind.mkdir()
+        (store / "s.x1").unlink()
+        (store / "s.x1").symlink_to(behind / "1")
+        for number in range(1, many):
+            (behind / f"{number}").symlink_to(f"{number + 1}")
+        before = all_of(store) | all_of(behind)
+        said = run("repair", "--follow-links", store, status=0 if many == 10 else 3)
+        hold(("s.x1: can't be put in its place: invalid input parameter\n" in said) == (many == 20), said)
+        made = {"10": files["s.x1"]} if many == 10 else {}
+        hold(all_of(store) | all_of(behind) == before | made, f"{many}: {sorted(all_of(behind))}")
+
+
 def fill(fifo):
     """Writes to a FIFO until it takes no more."""
     try:
