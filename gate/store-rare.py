@@ -457,6 +457,19 @@ def test_fragments_that_many_links_lead_to(place, choose):
         hold(all_of(store) | all_of(behind) == before | made, f"{many}: {sorted(all_of(behind))}")
 
 
+def test_read_beside_digests_of_other_bytes(place, choose):
+    """Where the digests are those of other bytes for more fragments than the code gives back, a file is read all the same, without the one
+    or the two that are damaged."""
+    data, store, output = choose.randbytes(3_000), place / "store", place / "output"
+    run("encode", store, source(place, "a", data), status=0)
+    lines = (store / "SHA256SUMS").read_text().splitlines(keepends=True)
+    (store / "SHA256SUMS").write_text("".join(f"{0:064}{line[64:]}" if line[66:69] in ("a.x", "a.y") else line for line in lines))
+    for each, why in (("x1", "a fragment is damaged: read without x1"), ("y2", "fragments are damaged: read without x1 and y2")):
+        (store / f"a.{each}").write_bytes(choose.randbytes(500))
+        said = run("read", "-o", output, store, "a", status=0)
+        hold(output.read_bytes() == data and said == f"rebuild-store: a: {why}\n", said)
+
+
 def fill(fifo):
     """Writes to a FIFO until it takes no more."""
     try:
