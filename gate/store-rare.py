@@ -412,7 +412,7 @@ def test_names_like_keys(place, choose):
 
 
 def test_places_of_the_wider_code_that_cannot_be_looked_at(place, choose):
-    """No file is encoded while it isn't known whether there is a fragment of it at a place that its code hasn't, and nothing is put into the
+    """No file is encoded while it isn't known whether there is a fragment of it at a place that its code hasn't: nothing is put into the
     store."""
     names, store = ["--names", "{place}/{stripe}", "--code", "6-2-2"], place / "store"
     run("encode", "--make-folders", *names, store, source(place, "a", choose.randbytes(90)), status=0)
@@ -428,7 +428,7 @@ def test_places_of_the_wider_code_that_cannot_be_looked_at(place, choose):
 
 
 def test_files_named_as_descriptions_of_nothing(place, choose):
-    """A file that is named as a description and isn't one makes no file of the store that is read back, unless there are fragments of it."""
+    """A file that is named as a description and isn't one makes no file of the store that is read back, unless it has fragments."""
     store = place / "store"
     run("encode", store, source(place, "a", choose.randbytes(300)), status=0)
     lay_files(store, {name: b"a line of other software\n" for name in ("b.file", "c.file.copy", "d.file", "d.file.copy", "c.x0")})
@@ -440,7 +440,7 @@ def test_files_named_as_descriptions_of_nothing(place, choose):
 
 
 def test_fragments_that_many_links_lead_to(place, choose):
-    """A fragment is made where its links lead, but not where they lead to more than 16 others, though the system would follow these: nothing
+    """A fragment is made where its links lead, but not where they lead to more than 16 others, though the system follows these: nothing
     changes then."""
     for many in (10, 20):
         store, behind = place / f"store-{many}", place / f"behind-{many}"
