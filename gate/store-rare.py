@@ -411,6 +411,65 @@ def test_names_like_keys(place, choose):
         hold(names <= set(there(store)), f"{pattern}: {sorted(there(store))}")
 
 
+def test_places_of_the_wider_code_that_cannot_be_looked_at(place, choose):
+    """No file is encoded while it isn't known whether there is a fragment of it at a place that its code hasn't: nothing is put into the
+    store."""
+    names, store = ["--names", "{place}/{stripe}", "--code", "6-2-2"], place / "store"
+    run("encode", "--make-folders", *names, store, source(place, "a", choose.randbytes(90)), status=0)
+    files, file = there(store), source(place, "b", choose.randbytes(100))
+    for each in ("x3", "y5"):
+        (store / each).symlink_to(each)
+        for words in ([], ["--replace"], ["--follow-links"]):
+            said = run("encode", *words, *names, store, file, status=3)
+            hold("Too many levels of symbolic links" in said and there(store) == files, f"{each}, {words}: {said}{sorted(there(store))}")
+        (store / each).unlink()
+    run("encode", *names, store, file, status=0)
+    hold(set(there(store)) > set(files), f"{sorted(there(store))}")
+
+
+def test_files_named_as_descriptions_of_nothing(place, choose):
+    """A file that is named as a description and isn't one makes no file of the store that is read back, unless it has fragments."""
+    store = place / "store"
+    run("encode", store, source(place, "a", choose.randbytes(300)), status=0)
+    lay_files(store, {name: b"a line of other software\n" for name in ("b.file", "c.file.copy", "d.file", "d.file.copy", "c.x0")})
+    said = run("verify", store, status=0)
+    hold(said == "verified 1 file; not as described: 0\n", said)
+    lay_files(store, {f"b.{each}": (store / f"a.{each}").read_bytes() for each in PLACES})
+    said = run("verify", store, status=1)
+    hold("b.file: isn't a line with a length, a digest and a code\nverified 1 file; not as described: 1\n" in said, said)
+
+
+def test_fragments_that_many_links_lead_to(place, choose):
+    """A fragment is made where its links lead, but not where they lead to more than 16 others, though the system follows these: nothing
+    changes then."""
+    for many in (10, 20):
+        store, behind = place / f"store-{many}", place / f"behind-{many}"
+        files = lay(store, choose)
+        behind.mkdir()
+        (store / "s.x1").unlink()
+        (store / "s.x1").symlink_to(behind / "1")
+        for number in range(1, many):
+            (behind / f"{number}").symlink_to(f"{number + 1}")
+        before = all_of(store) | all_of(behind)
+        said = run("repair", "--follow-links", store, status=0 if many == 10 else 3)
+        hold(("s.x1: can't be put in its place: invalid input parameter\n" in said) == (many == 20), said)
+        made = {"10": files["s.x1"]} if many == 10 else {}
+        hold(all_of(store) | all_of(behind) == before | made, f"{many}: {sorted(all_of(behind))}")
+
+
+def test_read_beside_digests_of_other_bytes(place, choose):
+    """Where the digests are those of other bytes for more fragments than the code gives back, a file is read all the same, without the one
+    or the two that are damaged."""
+    data, store, output = choose.randbytes(3_000), place / "store", place / "output"
+    run("encode", store, source(place, "a", data), status=0)
+    lines = (store / "SHA256SUMS").read_text().splitlines(keepends=True)
+    (store / "SHA256SUMS").write_text("".join(f"{0:064}{line[64:]}" if line[66:69] in ("a.x", "a.y") else line for line in lines))
+    for each, why in (("x1", "a fragment is damaged: read without x1"), ("y2", "fragments are damaged: read without x1 and y2")):
+        (store / f"a.{each}").write_bytes(choose.randbytes(500))
+        said = run("read", "-o", output, store, "a", status=0)
+        hold(output.read_bytes() == data and said == f"rebuild-store: a: {why}\n", said)
+
+
 def fill(fifo):
     """Writes to a FIFO until it takes no more."""
     try:
