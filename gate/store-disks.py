@@ -219,6 +219,11 @@ def test_unmounted(place, choose):
     system("umount", place / "disk3")
     ended = Calls(place).run([PROGRAM, "repair", *words, place])
     hold(ended.status == 3 and "create" not in ended.kinds, f"a file was made: {ended.text()}")
+    # So it is where the store is given by a link that is in another file system.
+    mount(place / "of-a-link", 64 * KIB)
+    (place / "of-a-link/link").symlink_to(place)
+    ended = Calls(place).run([PROGRAM, "repair", *words, place / "of-a-link/link"])
+    hold(ended.status == 3 and "create" not in ended.kinds, f"a file was made: {ended.text()}")
     planned = run("repair", "--dry-run", *words, place, status=3)
     hold("2 can't" in planned and "can be made" not in planned, f"a plan makes something there: {planned}")
     for name in ("source", "source.file"):

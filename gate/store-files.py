@@ -3009,6 +3009,30 @@ def test_folders_of_a_replacement_that_fails(place, choose):
         hold(sorted(path for path in store.rglob("*") if path.is_dir()) == folders, f"call {number}: {sorted(store.rglob('*'))}")
 
 
+def test_source_that_is_a_link(place, choose):
+    """A file that is given by a link is encoded as what that leads to, under the link's name."""
+    store, data, link = place / "store", choose.randbytes(700), place / "link"
+    link.symlink_to(source(place, "a", data))
+    run("encode", store, link, status=0)
+    hold(decoded(store, "link") == data and not (store / "a.file").exists(), f"{sorted(there(store))}")
+    link.unlink()
+    link.symlink_to(source(place, "a", data + b"more"))
+    run("encode", "--replace", store, link, status=0)
+    hold(decoded(store, "link") == data + b"more", "not the new file")
+
+
+def test_file_whose_last_part_is_lost(place, choose):
+    """A file is read only if its last part is determined, however few bytes that has; a part that has no bytes of it isn't needed."""
+    for length, lost, is_read in ((1_001, ("y2", "py", "p0", "p1"), False), (1_001, ("x0", "px", "p0", "p1"), False),
+                                  (1_001, ("px", "py", "p0", "p1"), True), (5, ("y2", "py", "p0", "p1"), True)):
+        store, data = place / f"{length}-{lost[0]}", choose.randbytes(length)
+        run("encode", store, source(place, "a", data), status=0)
+        for name in lost:
+            (store / f"a.{name}").unlink()
+        out, err = run("read", store, "a", status=0 if is_read else 1)
+        hold(out == (data if is_read else b""), f"{length} {lost}: {len(out)} bytes: {err}")
+
+
 def test_verify_beside_stripes_of_other_software(place, choose):
     """What no description describes is no file: it isn't verified, and neither counted nor named."""
     store, data = place / "store", choose.randbytes(900)
