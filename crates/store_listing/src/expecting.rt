@@ -45,16 +45,19 @@ fn expect_described(
     };
     let folder = folder_in(name);
     let is_of_stripe = folder.is_empty() || is_folder_of(alloc, pattern, code, stripe, folder)?;
-    // What is noted of stripes of other parts isn't known here, but the sums name their fragments.
-    let is_known = names.is_expected(stripe) || is_listed(alloc, sums, pattern, code, stripe)?;
-    match pattern.read(code, name) {
-        Some((other, place)) if !is_of_stripe || !is_known => {
+    if let Some((other, place)) = pattern.read(code, name) {
+        // What is noted of stripes of other parts isn't known here, but the sums name their fragments.
+        if !is_of_stripe
+            || !names.is_expected(stripe) && !is_listed(alloc, sums, pattern, code, stripe)?
+        {
             names.expect_fragment(alloc, other, place)?;
+            return Ok(true);
         }
-        _ if is_of_stripe => names.expect_description(alloc, stripe)?,
-        _ => return Ok(false),
     }
-    Ok(true)
+    if is_of_stripe {
+        names.expect_description(alloc, stripe)?;
+    }
+    Ok(is_of_stripe)
 }
 
 /// Whether sums name a fragment of a stripe.
