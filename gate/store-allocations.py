@@ -104,6 +104,22 @@ def hold_lines(said, lines):
     hold(not missing, f"not said: {missing}: {said}")
 
 
+def test_report_that_leads_to_a_lost_fragment(place, choose):
+    """A report, or counters, whose path leads to the name of a lost fragment are refused, and nothing is written there."""
+    store, link = place / "store", place / "link"
+    lay(store, choose, length=40)
+    (store / "s.x1").unlink()
+    link.symlink_to(place / "further")
+    (place / "further").symlink_to(store / "s.x1")
+
+    def judge(_is_out, what):
+        hold(not (store / "s.x1").exists(), f"written into the store: {what}")
+
+    for command, option in (("scrub", "--report"), ("repair", "--progress"), ("repair", "--report")):
+        said, _ = refuse_each(place, [command, *ALONE, option, link], store, judge=judge, last=120)
+        hold(said == f"rebuild-store: {link}: is a file of the store, and no place for a report\n", said)
+
+
 def test_what_contradicts(place, choose):
     """Lengths that contradict each other, what can't be looked at, and what isn't determined, are said whole."""
     store, names = place / "store", place / "names"

@@ -7,6 +7,7 @@ that is copied right after the end, as a cut of the power leaves it.
 The disks are in memory, or a file with ext4, in a namespace of mounts that ends with this script. What can't be mounted here, and what root
 alone can try, is said to be skipped."""
 
+import errno
 import os
 import pathlib
 import random
@@ -19,6 +20,7 @@ import tempfile
 sys.dont_write_bytecode = True
 ROOT = pathlib.Path(__file__).resolve().parent.parent
 sys.path.append(str(ROOT / "tools"))
+import refusals  # noqa: E402
 from faults import Calls  # noqa: E402
 from store import stripe  # noqa: E402
 
@@ -253,6 +255,44 @@ def test_unmounted_behind_links(place, choose):
     hold(not [*(place / "behind3").iterdir()], f"something was made where no disk is mounted: {said}")
 
 
+def test_unmounted_beside_faults(place, choose):
+    """Nothing is made where no disk is mounted, also if a call fails that looks at something, or memory is refused."""
+    words = ["--code", "6-2-2", "--names", "faulty{shard}/{stripe}"]
+    source, calls, library = place / "source", Calls(place), refusals.Library(place)
+    source.write_bytes(choose.randbytes(50))
+    for number in range(10):
+        mount(place / f"faulty{number}", 512 * KIB)
+        (place / f"faulty{number}").chmod(0o755)
+    run("encode", *words, place, source, status=0)
+    system("umount", place / "faulty3")
+    repair = [PROGRAM, "repair", *words, "-j", "1", place]
+    for number, kind in enumerate(calls.run(repair).kinds, 1):
+        if kind == "look":
+            ended = calls.run(repair, number, errno.EIO)
+            hold(not [*(place / "faulty3").iterdir()], f"call {number} made something: {ended.text()}")
+    many = library.run(repair).allocations
+    for number in range(max(1, many - 250), many + 1):
+        ended = library.run(repair, refusal=refusals.Refusal(allocation=number))
+        hold(not [*(place / "faulty3").iterdir()], f"allocation {number} of {many} made something: {ended.text()}")
+
+
+def test_memory_beside_another_run(place, choose):
+    """Where nothing is known of locks, a run that is refused memory leaves no lock, and what a run of another host may still work on."""
+    disk, library, many = place / "unknown", refusals.Library(place), 0
+    disk.mkdir()
+    system("mount", "-t", "ramfs", "ramfs", disk)
+    disk.chmod(0o755)
+    lay(disk, {"s": stripe("6-2-2", 40, choose)})
+    other, repair = disk / ".rebuild-store-7@beta-0123456789abcdef", [PROGRAM, "repair", "-j", "1", disk]
+    for turn in range(-1, 310):
+        (disk / "s.x1").unlink(missing_ok=True)
+        other.write_bytes(b"half")
+        ended = library.run(repair, refusal=refusals.Refusal(allocation=many - turn)) if many else library.run(repair)
+        many = many or ended.allocations
+        left = sorted(path.name for path in disk.iterdir() if path.name.startswith(".rebuild-store-"))
+        hold(left == [other.name], f"allocation {many - turn} of {many} leaves {left}: {ended.text()}")
+
+
 def test_missing_beside_mounted(place, choose):
     """A disk whose folder isn't there, or is a file, is missing, and none that isn't mounted, as one of the (12,2,2) code's last is."""
     words, places = ["--code", "12-2-2", "--names", "all/{place}/{stripe}"], [*stripe("12-2-2", 1, choose)]
@@ -412,7 +452,8 @@ def main(program):
     PROGRAM = pathlib.Path(program or PROGRAM).resolve()
     choose = random.Random(2026)
     tests = (test_full, test_most_lost_first, test_read_only, test_links, test_long_names, test_leftover_folder, test_unmounted,
-             test_unmounted_behind_links, test_missing_beside_mounted, test_other_users, test_owner, test_cut, test_disks_alike)
+             test_unmounted_behind_links, test_unmounted_beside_faults, test_memory_beside_another_run, test_missing_beside_mounted,
+             test_other_users, test_owner, test_cut, test_disks_alike)
     with tempfile.TemporaryDirectory() as scratch:
         place = pathlib.Path(scratch)
         place.chmod(0o755)

@@ -112,6 +112,15 @@ def test_removal_beside_a_description_of_before(place, choose):
     hold([name for name in files if "a" in name] == [], f"{sorted(files)}")
 
 
+def test_removal_of_own_folders(place, choose):
+    """A file is taken out with the folder that it had alone, which isn't left there unsaid."""
+    names, kept = ("--names", "of/{stripe}/{place}", "--code", "6-2-2"), place / "kept"
+    run("encode", "--make-folders", *names, kept, source(place, "a", choose.randbytes(60)), status=0)
+    # The folder goes last.
+    files = Refused(place, kept).hold_each(["remove", *names, "STORE", "a"], 0, lambda many, _: range(many - 60, many + 1))
+    hold(sorted(files) == ["SHA256SUMS", "of"], f"{sorted(files)}")
+
+
 def test_folders_that_are_made(place, choose):
     """The folders that a pattern names are made as it names them."""
     names, kept = ("--names", "eightofs/of/{stripe}/{place}", "--code", "6-2-2"), place / "kept"

@@ -440,9 +440,8 @@ def test_files_named_as_descriptions_of_nothing(place, choose):
 
 
 def test_fragments_that_many_links_lead_to(place, choose):
-    """A fragment is made where its links lead, but not where they lead to more than 16 others, though the system follows these: nothing
-    changes then."""
-    for many in (10, 20):
+    """A fragment is made where its links lead, but not if there are more than 16, though the system follows these: nothing changes then."""
+    for many in (10, 16, 17):
         store, behind = place / f"store-{many}", place / f"behind-{many}"
         files = lay(store, choose)
         behind.mkdir()
@@ -451,9 +450,9 @@ def test_fragments_that_many_links_lead_to(place, choose):
         for number in range(1, many):
             (behind / f"{number}").symlink_to(f"{number + 1}")
         before = all_of(store) | all_of(behind)
-        said = run("repair", "--follow-links", store, status=0 if many == 10 else 3)
-        hold(("s.x1: can't be put in its place: invalid input parameter\n" in said) == (many == 20), said)
-        made = {"10": files["s.x1"]} if many == 10 else {}
+        said = run("repair", "--follow-links", store, status=0 if many <= 16 else 3)
+        hold(("s.x1: can't be put in its place: invalid input parameter\n" in said) == (many == 17), said)
+        made = {f"{many}": files["s.x1"]} if many <= 16 else {}
         hold(all_of(store) | all_of(behind) == before | made, f"{many}: {sorted(all_of(behind))}")
 
 

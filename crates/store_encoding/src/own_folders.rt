@@ -1,6 +1,7 @@
 //! Folders of a store that are a stripe's own, since their names have the stripe's.
 use std::alloc::AllocError;
 use std::fs;
+use std::io::ErrorKind;
 use store_faults::FileFault;
 use store_files::{Target, is_there};
 use store_folder::refuse_linked_folders;
@@ -70,8 +71,10 @@ fn is_above(folder: &str, others: &[String]) -> bool {
 
 /// Removes a folder of the store if nothing is in it.
 fn remove_empty(rt: &HostRuntime, target: &Target<'_>, inside: &str) -> Result<(), AllocError> {
-    if refuse_linked_folders(rt, target.folder, inside, target.links).is_err() {
-        return Ok(());
+    match refuse_linked_folders(rt, target.folder, inside, target.links) {
+        Ok(()) => {}
+        Err(error) if error.kind() == ErrorKind::OutOfMemory => return Err(AllocError),
+        Err(_) => return Ok(()),
     }
     let path = target.path(rt.alloc(), inside)?;
     let _ = fs::remove_dir(rt, path.as_str());

@@ -1,11 +1,11 @@
 //! Symbolic links below a store's folder.
-use folders::{Folder, Status, SystemFolder, folder_of};
+use folders::{Folder, Status, SystemFolder, folder_of, is_absent};
 use std::alloc::Global;
 use std::fs::{self, Metadata};
 use std::io::{self, ErrorKind};
 use store_names::path_in;
 
-/// How many links to links are followed.
+/// So many links at most are followed, one after the other.
 const MOST_LINKS: usize = 16;
 
 /// What is done with the links below a store's folder.
@@ -45,11 +45,8 @@ pub(crate) fn followed_in<F: Folder>(
     path: String,
 ) -> io::Result<String> {
     let mut path = path;
-    for _link in 0..MOST_LINKS {
-        let is_link = folder
-            .status(path.as_str())
-            .is_ok_and(|status| status.is_link());
-        if !is_link {
+    for _link in 0..=MOST_LINKS {
+        if !is_link(folder, path.as_str())? {
             return Ok(path);
         }
         let text = folder.read_link(path.as_str())?;
@@ -60,6 +57,17 @@ pub(crate) fn followed_in<F: Folder>(
         };
     }
     Err(io::Error::from(ErrorKind::InvalidInput))
+}
+
+/// Whether a link is at a path of a folder. Where its user may look at nothing, nothing is known of any.
+fn is_link<F: Folder>(folder: &F, path: &str) -> io::Result<bool> {
+    match folder.status(path) {
+        Ok(status) => Ok(status.is_link()),
+        Err(error) if is_absent(error.kind()) || error.kind() == ErrorKind::PermissionDenied => {
+            Ok(false)
+        }
+        Err(error) => Err(error),
+    }
 }
 
 /// Refuses a name below a folder if a folder on the way is a link, unless links are followed.

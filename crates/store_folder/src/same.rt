@@ -28,8 +28,10 @@ impl<F: Folder> FolderStore<'_, F> {
         let length = self.files.status(made_at)?.length;
         let links = Links::NotFollowed;
         let made = open_fragment_in(&self.files, made_at, length, links)?;
-        let Ok(there) = open_fragment_in(&self.files, path, length, links) else {
-            return Ok(false);
+        let there = match open_fragment_in(&self.files, path, length, links) {
+            Ok(there) => there,
+            Err(error) if error.kind() == ErrorKind::OutOfMemory => return Err(error),
+            Err(_) => return Ok(false),
         };
         let digest = digest_of(alloc, &made, length as usize)?;
         Ok(digest_of(alloc, &there, length as usize)? == digest)

@@ -2,7 +2,6 @@
 use crate::listing::Listing;
 use crate::watching::Wanted;
 use std::alloc::AllocError;
-use std::fs;
 use std::io::ErrorKind;
 use store_folder::{Links, read_description};
 use store_names::{described_stripe, folder_in, is_folder_of, last_of, path_in};
@@ -26,7 +25,9 @@ impl Listing {
             return Ok(false);
         }
         let may_be_fragment = pattern.read(wanted.code, name).is_some();
-        self.note_description_link(rt, folder, wanted, name)?;
+        if wanted.links == Links::Followed {
+            self.note_behind(rt, path_in(alloc, folder, name)?)?;
+        }
         if self.names.is_described(stripe) && !may_be_fragment {
             return Ok(true);
         }
@@ -41,23 +42,5 @@ impl Listing {
             _ => self.names.doubt(alloc, stripe)?,
         }
         Ok(true)
-    }
-
-    /// Notes the folder that a description's link leads to, if links are followed: one that is lost is made there.
-    fn note_description_link(
-        &mut self,
-        rt: &HostRuntime,
-        folder: &str,
-        wanted: &Wanted<'_>,
-        name: &str,
-    ) -> Result<(), AllocError> {
-        if wanted.links == Links::NotFollowed {
-            return Ok(());
-        }
-        let path = path_in(rt.alloc(), folder, name)?;
-        if fs::symlink_metadata(rt, path.as_str()).is_ok_and(|there| there.is_symlink()) {
-            let _ = self.look_behind(rt, path)?;
-        }
-        Ok(())
     }
 }

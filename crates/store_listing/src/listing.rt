@@ -22,8 +22,6 @@ pub struct Listing {
     pub unlisted: Vec<Unlisted>,
     /// The paths of files that have the names of such as runs leave if they are killed.
     pub leftovers: Vec<String>,
-    /// How many names are no UTF-8. They are left alone.
-    pub unreadable_names: u64,
     /// The path of a link that wasn't followed, the first that was met, and how many there are.
     pub link: Option<String>,
     pub links: u64,
@@ -43,7 +41,6 @@ impl Drop for Listing {
             names: _,
             unlisted: _,
             leftovers: _,
-            unreadable_names: _,
             link: _,
             links: _,
             linked: _,
@@ -71,7 +68,6 @@ impl Listing {
             names: StripeNames::new(alloc, wanted.part),
             unlisted: Vec::new(alloc),
             leftovers: Vec::new(alloc),
-            unreadable_names: 0,
             link: None,
             links: 0,
             linked: BTreeSet::new(alloc),
@@ -244,9 +240,8 @@ impl Listing {
                     let name = path_in(alloc, inside, entry.file_name())?;
                     self.keep_name(wanted, name, names)?;
                 }
-                Err(error) if error.kind() == ErrorKind::InvalidFilename => {
-                    self.unreadable_names = self.unreadable_names.saturating_add(1);
-                }
+                // A name that is no UTF-8 is left alone.
+                Err(error) if error.kind() == ErrorKind::InvalidFilename => {}
                 Err(error) => return Err(error),
             }
         }
@@ -289,7 +284,13 @@ impl Listing {
             self.leftovers.push(path)?;
             return Ok(());
         }
-        if !wanted.has_stripes || self.is_description(rt, folder, wanted, name)? {
+        if !wanted.has_stripes {
+            if wanted.links == Links::Followed && may_be_made(wanted, name) {
+                self.note_behind(rt, path)?;
+            }
+            return Ok(());
+        }
+        if self.is_description(rt, folder, wanted, name)? {
             return Ok(());
         }
         let Some((stripe, place)) = wanted.pattern.read(wanted.code, name) else {
@@ -300,6 +301,18 @@ impl Listing {
             None => self.names.note_folder(alloc, stripe, place)?,
         }
         Ok(())
+    }
+
+    /// Notes the folder that the link at a path leads to, if one is there: what is lost is made there.
+    pub(crate) fn note_behind(&mut self, rt: &HostRuntime, path: String) -> Result<(), AllocError> {
+        match fs::symlink_metadata(rt, path.as_str()) {
+            Ok(there) if there.is_symlink() => {
+                let _ = self.look_behind(rt, path)?;
+                Ok(())
+            }
+            Err(error) if error.kind() == ErrorKind::OutOfMemory => Err(AllocError),
+            _ => Ok(()),
+        }
     }
 
     /// What is at a path at which there is a name; none where that is a folder.
@@ -342,8 +355,10 @@ impl Listing {
         match followed(rt, path) {
             Ok(path) => {
                 let folder = String::from_str(alloc, folder_of(path.as_str()))?;
-                if let Ok(there) = fs::metadata(rt, folder.as_str()) {
-                    self.note_writers(alloc, folder.as_str(), &there)?;
+                match fs::metadata(rt, folder.as_str()) {
+                    Ok(there) => self.note_writers(alloc, folder.as_str(), &there)?,
+                    Err(error) if error.kind() == ErrorKind::OutOfMemory => return Err(AllocError),
+                    Err(_) => {}
                 }
                 self.linked.insert(folder)?;
             }
@@ -352,6 +367,11 @@ impl Listing {
         }
         Ok(metadata)
     }
+}
+
+/// Whether a name of a store is one that a fragment or a description may get.
+fn may_be_made(wanted: &Wanted<'_>, name: &str) -> bool {
+    wanted.pattern.read(wanted.code, name).is_some() || described_stripe(last_of(name)).is_some()
 }
 
 /// The path of a folder inside the store's.

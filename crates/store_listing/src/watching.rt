@@ -1,8 +1,9 @@
 //! How a store is listed, and what is looked out for meanwhile: a path that may be one of its names, folders that others may write into.
 use folders::{Identity, folder_of};
 use lrc_code::Code;
+use std::alloc::AllocError;
 use std::fs::{self, Metadata};
-use std::io::Read;
+use std::io::{ErrorKind, Read};
 use std::os::unix::fs::MetadataExt;
 use store_folder::{Links, SUMS_NAME, open_regular};
 use store_names::{KEPT, Part, Pattern, described_stripe, is_of_runs, last_of};
@@ -51,22 +52,31 @@ impl<'a> Watched<'a> {
         given: &'a str,
         path: &'a str,
         begins: &[&str],
-    ) -> Option<Watched<'a>> {
-        let folder = fs::metadata(rt, folder_of(path)).ok()?;
-        Some(Watched {
+    ) -> Result<Option<Watched<'a>>, AllocError> {
+        let Some(folder) = what_is_at(rt, folder_of(path))? else {
+            return Ok(None);
+        };
+        Ok(Some(Watched {
             given,
-            folder: Identity::of(&folder),
+            folder,
             name: last_of(path),
-            file: fs::metadata(rt, path)
-                .ok()
-                .map(|metadata| Identity::of(&metadata)),
+            file: what_is_at(rt, path)?,
             is_output: begins_with_one(rt, path, begins),
-        })
+        }))
     }
 
     /// Whether a fragment may be at the path by another name.
     pub(crate) fn may_be_fragment(&self) -> bool {
         self.file.is_some() && !self.is_output
+    }
+}
+
+/// Which file or folder is at a path; none where the system doesn't show one.
+fn what_is_at(rt: &HostRuntime, path: &str) -> Result<Option<Identity>, AllocError> {
+    match fs::metadata(rt, path) {
+        Ok(metadata) => Ok(Some(Identity::of(&metadata))),
+        Err(error) if error.kind() == ErrorKind::OutOfMemory => Err(AllocError),
+        Err(_) => Ok(None),
     }
 }
 

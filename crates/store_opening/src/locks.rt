@@ -199,27 +199,51 @@ fn open_folder(rt: &HostRuntime, folder: &str) -> io::Result<File> {
 }
 
 /// Keeps other runs out of a part. A file that another run has removed since it was opened keeps nobody out, so that the file that has the
-/// name is locked.
+/// name is locked. One that was made here and can't be this run's lock is removed.
 fn lock_part(rt: &HostRuntime, sharing: &Sharing, path: &str) -> Result<File, StoreFault> {
     let alloc = rt.alloc();
     for _opening in 0..MOST_OPENINGS {
-        let opened = match open_lock(rt, path) {
+        // No memory is taken between the making of the file and its lock.
+        let name = String::from_str(alloc, path)?;
+        let LockFile { file, is_new } = match open_lock(rt, path) {
             Ok(opened) => opened,
             Err(error) if error.kind() == ErrorKind::NotFound => continue,
-            Err(error) => return Err(device_fault(String::from_str(alloc, path)?, error)),
+            Err(error) => return Err(device_fault(name, error)),
         };
-        let LockFile { file, is_new } = opened;
         let lock = file.try_lock();
-        let file = locked(file, lock, String::from_str(alloc, path)?)?;
-        match is_at(rt, &file, path) {
-            Ok(true) => return owned(rt, sharing, path, file, is_new),
+        let mut file = locked(file, lock, name)?;
+        match is_held(rt, sharing, path, &mut file, is_new) {
+            Ok(true) => return Ok(file),
             Ok(false) => {}
-            Err(error) => return Err(device_fault(String::from_str(alloc, path)?, error)),
+            Err(fault) => {
+                if is_new {
+                    remove_held(rt, &file, path);
+                }
+                return Err(fault);
+            }
         }
     }
     Err(StoreFault::InUse {
         folder: String::from_str(alloc, path)?,
     })
+}
+
+/// Whether a locked file is at the path of a lock; then it is this run's.
+fn is_held(
+    rt: &HostRuntime,
+    sharing: &Sharing,
+    path: &str,
+    file: &mut File,
+    is_new: bool,
+) -> Result<bool, StoreFault> {
+    match is_at(rt, file, path) {
+        Ok(true) => {
+            own(rt, sharing, path, file, is_new)?;
+            Ok(true)
+        }
+        Ok(false) => Ok(false),
+        Err(error) => Err(device_fault(String::from_str(rt.alloc(), path)?, error)),
+    }
 }
 
 /// Whether a lock that is open is at a path. One that has other bytes than locks is a file of somebody else, and refused.
@@ -230,31 +254,35 @@ fn is_at(rt: &HostRuntime, file: &File, path: &str) -> io::Result<bool> {
     is_named(rt, file, path)
 }
 
-/// The file of a lock, in which this run is written if nothing is known of locks there; it is refused if a run may have it that was there
+/// Writes this run into the file of its lock if nothing is known of locks there; it is refused if a run may have the lock that was there
 /// before.
-fn owned(
+fn own(
     rt: &HostRuntime,
     sharing: &Sharing,
     path: &str,
-    file: File,
+    file: &mut File,
     is_new: bool,
-) -> Result<File, StoreFault> {
+) -> Result<(), StoreFault> {
     if sharing.locking(rt, path)? != Locking::Unknown {
-        return Ok(file);
+        return Ok(());
     }
     if !is_new {
         refuse_other(rt, sharing, path)?;
     }
-    let mut file = file;
-    match write_run(rt.alloc(), &mut file, sharing.run()) {
-        Ok(()) => Ok(file),
+    match write_run(rt.alloc(), file, sharing.run()) {
+        Ok(()) => Ok(()),
         Err(error) => {
             // It is this run's, also if one that has ended had it before: no other run gets past a lock that names no run.
-            if is_named(rt, &file, path).unwrap_or(false) {
-                let _ = fs::remove_file(rt, path);
-            }
+            remove_held(rt, file, path);
             Err(device_fault(String::from_str(rt.alloc(), path)?, error))
         }
+    }
+}
+
+/// Removes the file of a lock that is held, if it is still at its path.
+fn remove_held(rt: &HostRuntime, file: &File, path: &str) {
+    if is_named(rt, file, path).unwrap_or(false) {
+        let _ = fs::remove_file(rt, path);
     }
 }
 

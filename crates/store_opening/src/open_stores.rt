@@ -7,6 +7,7 @@ use crate::unlisted::{listed, say_unlisted};
 use crate::unmounted::{leave_alone, left_alone};
 use lrc_code::Code;
 use std::alloc::AllocError;
+use std::io::ErrorKind;
 use std::mem;
 use store_faults::{COUNTER_PREFIX, REPORT_HEADER, ROW_BEGIN, StoreFault};
 use store_folder::{Site, Sums, followed};
@@ -148,7 +149,7 @@ fn open_locked(
     }
     let mut watched = Vec::new(alloc);
     for (given, end) in &ends {
-        if let Some(path) = Watched::at(rt, given.as_str(), end.as_str(), &WRITTEN) {
+        if let Some(path) = Watched::at(rt, given.as_str(), end.as_str(), &WRITTEN)? {
             watched.push(path)?;
         }
     }
@@ -159,6 +160,7 @@ fn open_locked(
 fn end_of_links(rt: &HostRuntime, path: &str) -> Result<String, AllocError> {
     match followed(rt, String::from_str(rt.alloc(), path)?) {
         Ok(end) => Ok(end),
+        Err(error) if error.kind() == ErrorKind::OutOfMemory => Err(AllocError),
         Err(_) => String::from_str(rt.alloc(), path),
     }
 }

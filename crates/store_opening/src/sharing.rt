@@ -83,8 +83,12 @@ impl Sharing {
         rt: &HostRuntime,
         path: &str,
     ) -> Result<Option<OtherRun>, AllocError> {
-        let is_file = fs::symlink_metadata(rt, path).is_ok_and(|there| there.is_file());
-        if !is_file || self.locking(rt, path)? != Locking::Unknown {
+        match fs::symlink_metadata(rt, path) {
+            Ok(there) if there.is_file() => {}
+            Err(error) if error.kind() == ErrorKind::OutOfMemory => return Err(AllocError),
+            _ => return Ok(None),
+        }
+        if self.locking(rt, path)? != Locking::Unknown {
             return Ok(None);
         }
         match run_of(last_of(path)) {

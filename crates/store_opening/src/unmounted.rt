@@ -3,37 +3,55 @@ use crate::opening::{Opening, Unmounted};
 use lrc_code::{Code, PlaceSet};
 use std::alloc::{AllocError, Global};
 use std::fs;
+use std::io::{self, ErrorKind};
 use std::os::unix::fs::MetadataExt;
-use store_faults::{StoreFault, say};
-use store_folder::{Found, Links, NO_MEDIUM, Pattern, look_at, path_in};
+use store_faults::{StoreFault, device_fault, say, words_of};
+use store_folder::{Found, Links, NO_MEDIUM, Pattern, is_absent, look_at, path_in};
 use store_listing::StoreStripes;
 use store_names::{disk_folders, folder_in};
 
+/// A folder of a pattern's disks at which no disk is mounted, or of which that can't be seen.
+#[derive(Drop)]
+struct Unseen {
+    name: String,
+    /// Why it can't be looked at, if it can't.
+    error: Option<io::Error>,
+}
+
 /// The folders of a pattern's disks that are on the device of the store's own folder, if more of them are on others: no disk is mounted at
-/// these, and what is written there would be on another one.
+/// these, and what is written there would be on another one. One that can't be looked at may be such a folder.
 fn unmounted_folders(
     rt: &HostRuntime,
     folder: &str,
     pattern: &Pattern<'_>,
     code: Code,
     links: Links,
-) -> Result<Vec<String>, AllocError> {
+) -> Result<Vec<Unseen>, StoreFault> {
     let alloc = rt.alloc();
     let mut unmounted = Vec::new(alloc);
     let Some(disks) = disk_folders(alloc, pattern, code)? else {
         return Ok(unmounted);
     };
-    let Ok(store) = fs::metadata(rt, folder) else {
-        return Ok(unmounted);
+    let store = match fs::metadata(rt, folder) {
+        Ok(store) => store,
+        Err(error) if error.kind() == ErrorKind::NotFound => return Ok(unmounted),
+        Err(error) => return Err(device_fault(String::from_str(alloc, folder)?, error)),
     };
     let mut mounted = 0usize;
-    for disk in disks {
-        let path = path_in(alloc, folder, disk.as_str())?;
+    for name in disks {
+        let path = path_in(alloc, folder, name.as_str())?;
         match look_at(rt, path.as_str(), links) {
             Ok(there) if there.is_dir() && there.dev() != store.dev() => {
                 mounted = mounted.saturating_add(1);
             }
-            Ok(there) if there.is_dir() => unmounted.push(disk)?,
+            Ok(there) if there.is_dir() => unmounted.push(Unseen { name, error: None })?,
+            Err(error) if error.kind() == ErrorKind::OutOfMemory => {
+                return Err(StoreFault::OutOfMemory);
+            }
+            Err(error) if !is_absent(error.kind()) => {
+                let error = Some(error);
+                unmounted.push(Unseen { name, error })?;
+            }
             _ => {}
         }
     }
@@ -43,7 +61,8 @@ fn unmounted_folders(
     Ok(unmounted)
 }
 
-/// Refuses a store that is to be written into if no disk is mounted at a folder of its pattern, as are at most others.
+/// Refuses a store that is to be written into if no disk is mounted at a folder of its pattern, as are at most others, or if one of these
+/// can't be looked at.
 pub fn refuse_unmounted(
     rt: &HostRuntime,
     folder: &str,
@@ -51,12 +70,15 @@ pub fn refuse_unmounted(
     code: Code,
     links: Links,
 ) -> Result<(), StoreFault> {
-    match unmounted_folders(rt, folder, pattern, code, links)?.first() {
-        Some(name) => Err(StoreFault::Unmounted {
-            folder: path_in(rt.alloc(), folder, name.as_str())?,
-        }),
-        None => Ok(()),
-    }
+    let unmounted = unmounted_folders(rt, folder, pattern, code, links)?;
+    let Some(Unseen { name, error }) = unmounted.into_iter().next() else {
+        return Ok(());
+    };
+    let folder = path_in(rt.alloc(), folder, name.as_str())?;
+    Err(match error {
+        Some(error) => device_fault(folder, error),
+        None => StoreFault::Unmounted { folder },
+    })
 }
 
 /// The folders at which no disk is mounted and into which nothing is to be written. Those that aren't allowed are named.
@@ -64,31 +86,49 @@ pub(crate) fn left_alone(
     rt: &HostRuntime,
     opening: &Opening<'_>,
     code: Code,
-) -> Result<Vec<String>, AllocError> {
+) -> Result<Vec<String>, StoreFault> {
     let alloc = rt.alloc();
     let folder = opening.folder;
-    let unmounted = match opening.unmounted {
-        Unmounted::Allowed => Vec::new(alloc),
-        _ => unmounted_folders(rt, folder, &opening.pattern, code, opening.links)?,
-    };
+    let mut names = Vec::new(alloc);
+    if opening.unmounted == Unmounted::Allowed {
+        return Ok(names);
+    }
     let is_left_alone = opening.unmounted == Unmounted::LeftAlone;
-    for name in &unmounted {
+    for Unseen { name, error } in unmounted_folders(
+        rt,
+        folder,
+        &opening.pattern,
+        code,
+        opening.links,
+    )? {
         let path = path_in(alloc, folder, name.as_str())?;
-        let line = if is_left_alone {
-            format!(in alloc;
-                "rebuild-store: {path}: no disk is mounted there, as are at most others: nothing is written there without --allow-unmounted"
-            )
-        } else {
-            format!(in alloc;
-                "rebuild-store: {path}: no disk is mounted there, as are at most others"
-            )
-        };
-        let _ = say(rt, line);
+        let _ = say(rt, line_of(alloc, path.as_str(), error.as_ref(), is_left_alone));
+        if is_left_alone {
+            names.push(name)?;
+        }
     }
-    if is_left_alone {
-        return Ok(unmounted);
+    Ok(names)
+}
+
+/// What is said of a folder at which no disk is mounted, or that can't be looked at.
+fn line_of(
+    alloc: Global,
+    path: &str,
+    error: Option<&io::Error>,
+    is_left_alone: bool,
+) -> Result<String, AllocError> {
+    match error {
+        Some(error) => {
+            let why = words_of(alloc, error)?;
+            format!(in alloc; "rebuild-store: {path}: {why}: what should be in it counts as lost")
+        }
+        None if is_left_alone => format!(in alloc;
+            "rebuild-store: {path}: no disk is mounted there, as are at most others: nothing is written there without --allow-unmounted"
+        ),
+        None => format!(in alloc;
+            "rebuild-store: {path}: no disk is mounted there, as are at most others"
+        ),
     }
-    Ok(Vec::new(alloc))
 }
 
 /// Notes that what isn't in some folders of disks can't be looked at, so that nothing is put there.

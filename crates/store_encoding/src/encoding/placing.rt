@@ -6,6 +6,7 @@ ghost use Rattle.store_folder.specs.Placed.{content_of};
 ghost use Rattle.store_folder.specs.Temporary.{is_temporary};
 ghost use Rattle.store_encoding.specs.Encoded.{AreDone, AreThere, GivesEach, IsDueAt, contents_of};
 
+use crate::encoding::discarding::after_discarding;
 use crate::refusing::refused;
 use folders::{Folder, SystemNew};
 use std::io::{self, ErrorKind};
@@ -59,17 +60,6 @@ fn discard_all<F: Folder>(
     }
 }
 
-/// Why new files couldn't be removed, if they couldn't, or else why they were to be.
-fn first_of(removed: Result<(), FileFault>, fault: FileFault) -> FileFault {
-    match removed {
-        Ok(()) => fault,
-        Err(other) => {
-            drop(fault);
-            other
-        }
-    }
-}
-
 /// What is under the name at a path, beside a file of a length and a digest.
 fn what_is_there(
     rt: &HostRuntime,
@@ -108,9 +98,13 @@ pub(crate) fn place_fragments<F: Folder>(
         Ok(None) => place_each(rt, files, target, progress, names, length, made),
         Ok(Some(name)) => {
             let removed = discard_all(rt, files, target.folder, made);
-            Err(first_of(removed, is_there_already(rt, name)))
+            let fault = is_there_already(rt, name);
+            Err(after_discarding(rt, progress, fault, removed))
         }
-        Err(fault) => Err(first_of(discard_all(rt, files, target.folder, made), fault)),
+        Err(fault) => {
+            let removed = discard_all(rt, files, target.folder, made);
+            Err(after_discarding(rt, progress, fault, removed))
+        }
     }
 }
 

@@ -62,6 +62,9 @@ impl Seen {
     ) -> Result<(), AllocError> {
         let path = path_in(rt.alloc(), site.folder, name.as_str())?;
         let state = state_of(rt, site, name.as_str(), path.as_str())?;
+        if !is_wanted && is_of_others(site, name.as_str(), &state) {
+            return Ok(());
+        }
         if let (CopyState::There(..), None) = (&state, &self.like) {
             self.like = fs::metadata(rt, path.as_str())
                 .ok()
@@ -77,6 +80,14 @@ impl Seen {
         })?;
         Ok(())
     }
+}
+
+/// Whether what has the name of a copy that needn't be there is somebody else's: it says nothing of a file, and no digest names it.
+fn is_of_others(site: &Site<'_>, name: &str, state: &CopyState) -> bool {
+    let is_listed = site.sums.is_some_and(|sums| {
+        sums.digest_of(name).is_some()
+    });
+    !is_listed && matches!(state, CopyState::Odd { .. } | CopyState::NoFile)
 }
 
 /// What is of a copy of a name, at a path. Behind a link in place of its folder is nothing, unless links are followed.

@@ -1,0 +1,179 @@
+#!/usr/bin/env python3
+"""Tries rebuild-store beside what is somebody else's: files that are named as those of a store are, what links lead to, and what stays in
+the way.
+
+    store-others.py [PROGRAM [TEST]]
+
+It runs what was built last, or PROGRAM, and of the tests those whose names have TEST in them."""
+
+import errno
+import os
+import shutil
+import sys
+import threading
+
+# No compiled copy of the modules is left beside them.
+sys.dont_write_bytecode = True
+import refusals  # noqa: E402
+from faults import Calls  # noqa: E402
+from stores import Program, description, digest, hold, lay, run, source, there, try_all, write_sums  # noqa: E402
+
+DISKS = ["--names", "disk{shard}/{stripe}", "--code", "6-2-2"]
+LEFTOVER = ".rebuild-store-0123456789abcdef"
+
+
+def make_others(path):
+    """What isn't a description and may have the name of one, each made in a turn of its own, and whether it is a file."""
+    for bytes_there in (b"", b"minutes of a meeting\n", b"7" * 5_000):
+        path.write_bytes(bytes_there)
+        yield True
+        path.unlink()
+    path.mkdir()
+    yield False
+    path.rmdir()
+    os.mkfifo(path)
+    yield False
+    path.unlink()
+
+
+def test_file_named_as_an_old_description(place, choose):
+    """What is in the own folder of a store of disks under the name that a description had there, and says nothing of a file, is somebody
+    else's: it is neither named nor replaced."""
+    store, report, other = place / "store", place / "report", place / "store/a.file"
+    run("encode", "--make-folders", *DISKS, store, source(place, "a", choose.randbytes(700)), status=0)
+    for has_sums in (True, False):
+        if not has_sums:
+            (store / "SHA256SUMS").unlink()
+        for _is_file in make_others(other):
+            before, looked = there(store), os.lstat(other)
+            for words in (["scrub"], ["repair"], ["repair", "--replace-damaged"], ["repair", "--replace-damaged", "--dry-run"]):
+                said = run(*words, *DISKS, "--report", report, store, status=0)
+                hold("a.file" not in said and report.read_text() == "stripe,place,outcome,detail\n", f"{words}: {said}")
+                hold(there(store) == before and os.lstat(other) == looked, f"{words} has changed {sorted(there(store))}")
+
+
+def test_old_description_that_digests_name(place, choose):
+    """If the digests name it, it is the store's: it is named, and a file is replaced if that is asked for, unless it is longer than a
+    description is."""
+    store, other, data = place / "store", place / "store/a.file", choose.randbytes(700)
+    run("encode", "--make-folders", *DISKS, store, source(place, "a", data), status=0)
+    line = description(data).encode()
+    with open(store / "SHA256SUMS", "a") as sums:
+        sums.write(f"{digest(line)}  a.file\n")
+    for is_file in make_others(other):
+        why = "isn't a line with a length, a digest and a code" if is_file else "is no regular file"
+        hold(f"a.file: {why}\n" in run("scrub", *DISKS, store, status=1), "it isn't named")
+        may_be_replaced = is_file and len(other.read_bytes()) <= 93
+        before = there(store)
+        said = run("repair", "--replace-damaged", *DISKS, store, status=0 if may_be_replaced else 1)
+        if not may_be_replaced:
+            hold(f"a.file: {why}\n" in said and there(store) == before, said)
+            continue
+        hold(there(store) == before | {"a.file": line, "a.file.damaged": before["a.file"]}, f"{sorted(there(store))}: {said}")
+        (store / "a.file.damaged").unlink()
+
+
+def test_leftovers_behind_links_of_another_folder(place, choose):
+    """What a killed run has left where links of the folder of --to lead is removed by the next one, if links are followed, and only there
+    where a fragment or a description may be made."""
+    for follows in (True, False):
+        store, folder = place / f"store-{follows}", place / f"to-{follows}"
+        files = lay(store, choose)
+        (store / "s.x1").unlink()
+        folder.mkdir()
+        behind = {name: place / f"behind-{follows}-{name}" for name in ("s.x1", "s.file", "notes")}
+        for name, path in behind.items():
+            path.mkdir()
+            (path / LEFTOVER).write_bytes(b"half")
+            (folder / name).symlink_to(path / "end")
+        links = ["--follow-links"] if follows else []
+        said = run("repair", *links, "--to", folder, store, status=0 if follows else 1)
+        for name, path in behind.items():
+            is_removed = follows and name != "notes"
+            hold((path / LEFTOVER).exists() != is_removed, f"{name}: {said}")
+            line = f"rebuild-store: {path / LEFTOVER}: was left by a run that was killed, and is removed\n"
+            hold((line in said) == is_removed, f"{name}: {said}")
+        made = {"end": files["s.x1"]} if follows else {}
+        hold(there(behind["s.x1"]) == made | ({} if follows else {LEFTOVER: b"half"}), f"{sorted(there(behind['s.x1']))}: {said}")
+
+
+def test_read_through_a_link_into_the_store(place, choose):
+    """A file isn't read through a link to what is in a folder of the store, of whichever kind that is; it is through one to a FIFO that is
+    elsewhere."""
+    store, link, data = place / "store", place / "link", choose.randbytes(3_000)
+    run("encode", store, source(place, "a", data), status=0)
+    (store / "folder").mkdir()
+    (store / "fifo").symlink_to("pipe")
+    os.mkfifo(store / "pipe")
+    before = there(store)
+    for name in ("fifo", "pipe", "folder", "a.x0", "new"):
+        link.symlink_to(store / name)
+        said = run("read", "-o", link, store, "a", status=2)
+        hold(said == f"rebuild-store: {link}: is in a folder of the store\n" and there(store) == before, said)
+        link.unlink()
+    os.mkfifo(place / "fifo")
+    link.symlink_to("fifo")
+    got = []
+    reader = threading.Thread(target=lambda: got.append((place / "fifo").read_bytes()))
+    reader.start()
+    hold(run("read", "-o", link, store, "a", status=0) == "", "it says something")
+    reader.join()
+    hold(got == [data], "other bytes came")
+
+
+def test_taken_name_beside_a_file_that_stays(place, choose):
+    """A file whose name is taken isn't encoded, and that is said also where what was made of it can't be removed."""
+    store, path, calls = place / "store", place / "a", Calls(place, forks=True)
+    run("encode", store, source(place, "a", choose.randbytes(700)), status=0)
+    for name in ("a.file", "a.file.copy", "SHA256SUMS"):
+        (store / name).unlink()
+    path.write_bytes(choose.randbytes(700))
+    words = [Program.path, "encode", store, path]
+    kinds = calls.run(words).kinds
+    before = {name: data for name, data in there(store).items() if not name.startswith(".")}
+    ended = calls.run(words, kinds.index("unlink") + 1, errno.EIO)
+    hold(ended.status == 3, ended.text())
+    hold("a.x0: is there already, with other bytes: --replace replaces the file\n" in ended.err, ended.text())
+    hold(os.strerror(errno.EIO) in ended.err, ended.text())
+    hold({name: data for name, data in there(store).items() if not name.startswith(".")} == before, f"{sorted(there(store))}")
+    hold("was left by a run that was killed, and is removed\n" in run("encode", store, path, status=1), "the next run leaves it")
+    hold(there(store) == before, f"{sorted(there(store))}")
+
+
+def test_links_stay_links(place, choose):
+    """Where links are followed, a link to a damaged fragment stays one, also if a call fails that looks, or memory is refused."""
+    store, behind, calls, library = place / "store", place / "behind", Calls(place, forks=True), refusals.Library(place, forks=True)
+    files = lay(store, choose, length=40)
+    write_sums(store)
+    words = [str(it) for it in (Program.path, "repair", "--replace-damaged", "--follow-links", "--workers", "1", store)]
+
+    def lay_again():
+        shutil.rmtree(behind, ignore_errors=True)
+        behind.mkdir()
+        (behind / "x1").write_bytes(b"damaged")
+        (store / "s.x1").unlink(missing_ok=True)
+        (store / "s.x1").symlink_to(behind / "x1")
+
+    def hold_link(ended):
+        what = {name: data for name, data in there(behind).items() if not name.startswith(".rebuild-store-")}
+        hold((store / "s.x1").is_symlink(), f"the link was replaced: {ended.text()}")
+        hold(what in ({"x1": b"damaged"}, {"x1": files["s.x1"], "x1.damaged": b"damaged"}, {"x1": b"damaged", "x1.damaged": b"damaged"}),
+             f"{what}: {ended.text()}")
+        return what
+
+    lay_again()
+    whole = calls.run(words)
+    hold(whole.status == 0 and len(hold_link(whole)) == 2, whole.text())
+    for number, kind in enumerate(whole.kinds, 1):
+        if kind == "look":
+            lay_again()
+            hold_link(calls.run(words, number, errno.EIO))
+    lay_again()
+    many = library.run(words).allocations
+    for number in range(max(1, many - 300), many + 1):
+        lay_again()
+        hold_link(library.run(words, refusal=refusals.Refusal(allocation=number)))
+
+
+if __name__ == "__main__":
+    try_all("store-others", globals(), *sys.argv[1:3])
