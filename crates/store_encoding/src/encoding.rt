@@ -2,6 +2,7 @@
 mod begun;
 pub(crate) mod descriptions;
 mod discarding;
+mod failures;
 pub(crate) mod fragments;
 mod lone;
 mod lost_descriptions;
@@ -15,7 +16,8 @@ pub(crate) mod subfolders;
 pub(crate) mod sums;
 
 use crate::removing::has_any;
-use discarding::{after_discarding, discard_made};
+use discarding::discard_made;
+use failures::after_discarding;
 use fragments::{Encoded, make_encoded, source_digest};
 use lrc_code::{Code, Place};
 use ordering::place_stripe;

@@ -345,7 +345,7 @@ impl Listing {
     }
 
     /// What the link at a path leads to; its folder is noted, and who may write there.
-    pub(crate) fn look_behind(
+    fn look_behind(
         &mut self,
         rt: &HostRuntime,
         path: String,

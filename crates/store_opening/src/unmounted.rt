@@ -102,7 +102,10 @@ pub(crate) fn left_alone(
         opening.links,
     )? {
         let path = path_in(alloc, folder, name.as_str())?;
-        let _ = say(rt, line_of(alloc, path.as_str(), error.as_ref(), is_left_alone));
+        let _ = say(
+            rt,
+            line_of(alloc, path.as_str(), error.as_ref(), is_left_alone),
+        );
         if is_left_alone {
             names.push(name)?;
         }

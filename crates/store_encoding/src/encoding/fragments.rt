@@ -6,7 +6,8 @@ ghost use Rattle.store_folder.specs.Placed.{content_of};
 ghost use Rattle.store_repair.specs.Mended.{AreEmpty};
 
 use crate::encoding::Given;
-use crate::encoding::discarding::{after_discarding, discard_files, discard_made};
+use crate::encoding::discarding::{discard_files, discard_made};
+use crate::encoding::failures::after_discarding;
 use crate::encoding::placing::Made;
 use folders::Folder;
 use lrc_code::Place;

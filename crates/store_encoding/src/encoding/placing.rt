@@ -6,7 +6,7 @@ ghost use Rattle.store_folder.specs.Placed.{content_of};
 ghost use Rattle.store_folder.specs.Temporary.{is_temporary};
 ghost use Rattle.store_encoding.specs.Encoded.{AreDone, AreThere, GivesEach, IsDueAt, contents_of};
 
-use crate::encoding::discarding::after_discarding;
+use crate::encoding::failures::after_discarding;
 use crate::refusing::refused;
 use folders::{Folder, SystemNew};
 use std::io::{self, ErrorKind};

@@ -10,7 +10,8 @@ ghost use Rattle.store_encoding.specs.Names.{AreApart, CanGive, IsPairOf, Replac
 ghost use Rattle.store_encoding.specs.Replaced.{AllGot, GivesOnly, Goes, IsGivenTo, ReplacesFile};
 
 use crate::encoding::begun::{Begun, to_replace};
-use crate::encoding::discarding::{after_discarding, discard_staged};
+use crate::encoding::discarding::discard_staged;
+use crate::encoding::failures::after_discarding;
 use crate::encoding::lost_descriptions::mend_descriptions;
 use crate::encoding::source::no_name;
 use crate::encoding::stripe_files::{StripeFiles, are_apart, refuse_irregular};

@@ -84,9 +84,9 @@ impl Seen {
 
 /// Whether what has the name of a copy that needn't be there is somebody else's: it says nothing of a file, and no digest names it.
 fn is_of_others(site: &Site<'_>, name: &str, state: &CopyState) -> bool {
-    let is_listed = site.sums.is_some_and(|sums| {
-        sums.digest_of(name).is_some()
-    });
+    let is_listed = site
+        .sums
+        .is_some_and(|sums| { sums.digest_of(name).is_some() });
     !is_listed && matches!(state, CopyState::Odd { .. } | CopyState::NoFile)
 }
 

@@ -189,8 +189,8 @@ fn is_among(rt: &HostRuntime, folder: &str, folders: &Folders) -> io::Result<boo
     Err(io::Error::from(ErrorKind::InvalidFilename))
 }
 
-/// The path of what a path's links lead to, if that can be found there, or would be a new file. A pipe, to which `/dev/stdout` may lead, has
-/// no path, nor has what was removed, or is outside what this process sees of the system's files.
+/// The path of what a path's links lead to, if that can be found there, or would be a new file. A pipe, to which `/dev/stdout` may lead,
+/// has no path, nor has what was removed, or is outside what this process sees of the system's files.
 fn end_of_links(rt: &HostRuntime, path: &str) -> io::Result<Option<String>> {
     let end = match followed(rt, String::from_str(rt.alloc(), path)?) {
         Ok(end) => end,
@@ -202,7 +202,9 @@ fn end_of_links(rt: &HostRuntime, path: &str) -> io::Result<Option<String>> {
     match fs::metadata(rt, path) {
         Ok(there) if 0 < there.nlink() => match is_at(rt, end, &there) {
             // It may be open by a path that its user can't look at.
-            Err(error) if !there.is_file() && error.kind() == ErrorKind::PermissionDenied => Ok(None),
+            Err(error) if !there.is_file() && error.kind() == ErrorKind::PermissionDenied => Ok(
+                None,
+            ),
             found => found,
         },
         Err(error) if error.kind() == ErrorKind::NotFound => Ok(Some(end)),
