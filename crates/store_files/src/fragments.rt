@@ -13,7 +13,7 @@ use store_folder::{
     refuse_linked_folders,
 };
 use store_progress::Counted;
-use store_repair::{MendFault, Survivors, fragment_length, lost_places, read_file};
+use store_repair::{Survivors, fragment_length, lost_places, read_file};
 
 /// The fragments of a stripe that are there, by the places' indexes.
 #[derive(Drop)]
@@ -126,18 +126,8 @@ pub(crate) fn gives_file(
     let file_bytes = sought.described.length as usize;
     match read_file(rt.alloc(), &survivors, file_bytes, &mut counted) {
         Ok(()) => Ok(counted.file.finish(&sought.described.digest).1),
-        Err(fault) if is_for_memory(&fault) => Err(FileFault::OutOfMemory),
+        Err(fault) if fault.is_for_memory() => Err(FileFault::OutOfMemory),
         Err(_) => Ok(false),
-    }
-}
-
-/// Whether a file couldn't be had since memory was refused, also while a fragment was read or what it gives was digested.
-pub fn is_for_memory(fault: &MendFault) -> bool {
-    match fault {
-        MendFault::OutOfMemory => true,
-        MendFault::Several { .. } => false,
-        MendFault::Unread { error, .. } => error.kind() == ErrorKind::OutOfMemory,
-        MendFault::Unwritten { error, .. } => error.kind() == ErrorKind::OutOfMemory,
     }
 }
 

@@ -22,7 +22,7 @@ pub use descriptions::{
 };
 pub use digesting::{Digested, Unkept, digest_at};
 pub use fitting::fitting_description;
-pub use fragments::{Fragments, Missing, is_for_memory, open_fragments, survivors_of, unread_of};
+pub use fragments::{Fragments, Missing, open_fragments, survivors_of, unread_of};
 pub use staging::{
     has_fragments_of, has_some, is_staged, is_there, no_stored, refuse_linked, shares_fragment,
     staged_name,

@@ -95,8 +95,8 @@ fn fit_of_opened(
 
 /// A stripe that can't be read says nothing of the code.
 fn unknown(fault: MendFault) -> Result<Fit, AllocError> {
-    match fault {
-        MendFault::OutOfMemory => Err(AllocError),
-        _ => Ok(Fit::Unknown),
+    if fault.is_for_memory() {
+        return Err(AllocError);
     }
+    Ok(Fit::Unknown)
 }

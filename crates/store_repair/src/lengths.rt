@@ -14,7 +14,7 @@ ghost use Rattle.stores.specs.Stripes.{has_file};
 use crate::consistency::are_consistent;
 use crate::length_groups::{LengthGroup, Lengths};
 use crate::losses::are_checked;
-use crate::mending::{MendFault, Survivors};
+use crate::mending::Survivors;
 use crate::opening::open_survivors;
 use crate::outcomes::{Finding, Reason, note, note_no_survivor, note_unknown};
 use lrc_code::{Code, Place, PlaceSet};
@@ -223,7 +223,7 @@ fn evidence_of<S: Store>(
     };
     match are_consistent(alloc, &survivors) {
         Ok(true) => Ok(Evidence::Checks),
-        Err(MendFault::OutOfMemory) => Err(AllocError),
+        Err(fault) if fault.is_for_memory() => Err(AllocError),
         _ => Ok(Evidence::Nothing),
     }
 }

@@ -16,7 +16,7 @@ use lrc_code::{Code, Place, PlaceSet};
 use lrc_field::Gf;
 use lrc_plan::{checks_from, reduce_by_lost, value_from};
 use std::alloc::{AllocError, AllocFailed, Global};
-use std::io;
+use std::io::{self, ErrorKind};
 use stores::{Fragment, NewFragment};
 use thiserror::Error;
 
@@ -50,6 +50,18 @@ impl<T: Drop> From<AllocFailed<T>> for MendFault {
 
     fn from(_failed: AllocFailed<T>) -> MendFault {
         MendFault::OutOfMemory
+    }
+}
+
+impl MendFault {
+    /// Whether memory was refused, also while a fragment was read or written.
+    pub fn is_for_memory(&self) -> bool {
+        match self {
+            MendFault::OutOfMemory => true,
+            MendFault::Several { .. } => false,
+            MendFault::Unread { error, .. } => error.kind() == ErrorKind::OutOfMemory,
+            MendFault::Unwritten { error, .. } => error.kind() == ErrorKind::OutOfMemory,
+        }
     }
 }
 

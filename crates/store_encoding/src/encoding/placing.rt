@@ -101,10 +101,12 @@ pub(crate) fn place_fragments<F: Folder>(
             let fault = is_there_already(rt, name);
             Err(after_discarding(rt, progress, fault, removed))
         }
-        Err(fault) => {
-            let removed = discard_all(rt, files, target.folder, made);
-            Err(after_discarding(rt, progress, fault, removed))
-        }
+        Err(fault) => Err(after_discarding(
+            rt,
+            progress,
+            fault,
+            discard_all(rt, files, target.folder, made),
+        )),
     }
 }
 

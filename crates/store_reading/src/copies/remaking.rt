@@ -6,7 +6,7 @@ use sha2::{Digest as _, Sha256};
 use std::alloc::{AllocError, Global};
 use std::io;
 use store_faults::FileFault;
-use store_files::{Missing, Sought, StoredFile, is_for_memory, open_fragments, survivors_of};
+use store_files::{Missing, Sought, StoredFile, open_fragments, survivors_of};
 use store_folder::{Described, Digest, Site};
 use store_repair::{NewFragment, fragment_length, read_file};
 
@@ -104,7 +104,7 @@ fn ends_of(
     let file_bytes = sought.described.length as usize;
     match read_file(alloc, &survivors, file_bytes, &mut ends) {
         Ok(()) => Ok(Some(ends)),
-        Err(fault) if is_for_memory(&fault) => Err(AllocError),
+        Err(fault) if fault.is_for_memory() => Err(AllocError),
         Err(_) => Ok(None),
     }
 }
