@@ -1,9 +1,9 @@
 //! The code of a file of a store, which may be another than the one that most files there have.
 use lrc_code::Code;
 use store_faults::FileFault;
-use store_files::{StoredFile, Target, first_described};
+use store_files::{StoredFile, Target, believed_description};
 
-/// The code that the first of these stripes with a description is said to have, and that of the store where none has one.
+/// The code that is believed of the first of these stripes with a description, and that of the store where none has one.
 pub(crate) fn code_of(
     rt: &HostRuntime,
     target: &Target<'_>,
@@ -17,7 +17,7 @@ pub(crate) fn code_of(
             links: target.links,
             progress: None,
         };
-        if let Some(described) = first_described(rt, &file)? {
+        if let Some(described) = believed_description(rt, &file)? {
             return Ok(described.code);
         }
     }

@@ -59,7 +59,7 @@ fn remove_levels(
 }
 
 /// Whether a folder is one of some folders, or one of these is below it.
-fn is_above(folder: &str, others: &[String]) -> bool {
+pub(crate) fn is_above(folder: &str, others: &[String]) -> bool {
     let is_at_or_below = |other: &String| {
         match other.as_str().strip_prefix(folder) {
             Some(rest) => rest.is_empty() || rest.starts_with('/'),

@@ -3,13 +3,14 @@ use crate::staging::{has_fragment, has_some, no_stored};
 use crate::stored_file::StoredFile;
 use crate::target::Target;
 use lrc_code::{Code, Place, PlaceSet};
+use sha2::{Digest as _, Sha256};
 use std::alloc::Global;
 use std::io::{self, ErrorKind};
 use std::{fs, mem};
 use store_faults::{FileFault, device};
 use store_folder::{
-    Described, Links, description_names, first_description_name, is_absent, path_in,
-    read_description, refuse_linked_folders,
+    Described, Links, SUMS_NAME, SumsFault, description_names, first_description_name, is_absent,
+    path_in, read_description, read_sums, refuse_linked_folders,
 };
 use store_repair::lost_places;
 
@@ -21,7 +22,8 @@ enum Unread {
     Unsaid,
 }
 
-/// What the copies of a file's description say, each once, first what most say.
+/// What the copies of a file's description say, each once: first what the copies say that have the digest which the store's sums name for
+/// them, and then what most say.
 pub fn descriptions_of(
     rt: &HostRuntime,
     file: &StoredFile<'_, '_>,
@@ -40,10 +42,44 @@ pub fn descriptions_of(
     let mut said = Vec::new(alloc);
     let mut refused = None;
     let copies = names.as_slice();
-    match add_copies(rt, file, copies, Unread::Said, &mut said, &mut refused) {
-        Ok(()) => ordered(rt, file, said.as_slice(), refused),
-        Err(fault) => Err(fault),
+    let ordered = match add_copies(rt, file, copies, Unread::Said, &mut said, &mut refused) {
+        Ok(()) => ordered(rt, file, said.as_slice(), refused)?,
+        Err(fault) => return Err(fault),
+    };
+    listed_first(rt, file, copies, ordered)
+}
+
+/// Descriptions of a file, first those with the digest that the store's sums name for one of the copies, if there are several.
+fn listed_first(
+    rt: &HostRuntime,
+    file: &StoredFile<'_, '_>,
+    copies: &[String],
+    said: Vec<Described>,
+) -> Result<Vec<Described>, FileFault> {
+    if said.len() < 2 {
+        return Ok(said);
     }
+    let alloc = rt.alloc();
+    let path = path_in(alloc, file.folder, SUMS_NAME)?;
+    let sums = match read_sums(rt, path.as_str(), file.links) {
+        Ok(sums) => sums,
+        Err(SumsFault::OutOfMemory) => return Err(FileFault::OutOfMemory),
+        Err(_) => return Ok(said),
+    };
+    let mut order = Vec::with_capacity(alloc, said.len())?;
+    for is_first in [true, false] {
+        for described in &said {
+            let text = described.text(alloc)?;
+            let digest = Sha256::digest(text.as_bytes());
+            let is_listed = copies
+                .iter()
+                .any(|copy| sums.digest_of(copy.as_str()) == Some(&digest));
+            if is_listed == is_first {
+                order.push(*described)?;
+            }
+        }
+    }
+    Ok(order)
 }
 
 /// What the copies of a file's description say, each once, first what most say; none where no copy is there. If no copy says anything, one
@@ -157,6 +193,25 @@ pub fn first_described(
         }
     }
     Ok(None)
+}
+
+/// What is believed of the copies of a file's description that can be read: the first of `descriptions_of`, of those that have to be there.
+pub fn believed_description(
+    rt: &HostRuntime,
+    file: &StoredFile<'_, '_>,
+) -> Result<Option<Described>, FileFault> {
+    let alloc = rt.alloc();
+    let names = description_names(alloc, &file.pattern, Code::Wide, file.name)?;
+    let mut said = Vec::new(alloc);
+    let mut refused = None;
+    let copies = names.as_slice();
+    match add_copies(rt, file, copies, Unread::Unsaid, &mut said, &mut refused) {
+        Ok(()) => drop(refused),
+        Err(fault) => return Err(fault),
+    }
+    let order = in_order(alloc, said.as_slice())?;
+    let order = listed_first(rt, file, copies, order)?;
+    Ok(order.first().copied())
 }
 
 /// Whether so many fragments of a stripe are there that they give the others. A disk that was away when the stripe replaced another one has

@@ -18,7 +18,8 @@ mod target;
 
 pub use choosing::{set_that_fits, some_that_fit};
 pub use descriptions::{
-    descriptions_for_sure, descriptions_of, first_described, is_whole, own_description,
+    believed_description, descriptions_for_sure, descriptions_of, first_described, is_whole,
+    own_description,
 };
 pub use digesting::{Digested, Unkept, digest_at};
 pub use fitting::fitting_description;

@@ -7,7 +7,7 @@ use std::alloc::{AllocError, Global};
 use std::collections::BTreeSet;
 use std::fs::{self, Metadata};
 use std::io::{self, ErrorKind};
-use store_folder::{Links, followed, look_at};
+use store_folder::{Links, followed, is_absent, look_at};
 use store_names::{described_stripe, disk_folders, is_of_runs, last_of, path_in};
 use stores::Found;
 
@@ -358,6 +358,8 @@ impl Listing {
                 match fs::metadata(rt, folder.as_str()) {
                     Ok(there) => self.note_writers(alloc, folder.as_str(), &there)?,
                     Err(error) if error.kind() == ErrorKind::OutOfMemory => return Err(AllocError),
+                    // Others may write there, so that nothing is to be made.
+                    Err(error) if !is_absent(error.kind()) => return Ok(Err(error)),
                     Err(_) => {}
                 }
                 self.linked.insert(folder)?;

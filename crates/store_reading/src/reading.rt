@@ -6,7 +6,9 @@ mod refusing;
 ghost use Rattle.std.specs.Prelude.{◌≡◌, vec_len};
 
 use destination::write_at;
+use lrc_code::{Code, PlaceSet};
 use output::write_out;
+use std::alloc::{AllocError, Global};
 use store_faults::FileFault;
 use store_files::{
     Fragments, Missing, Sought, StoredFile, descriptions_for_sure, descriptions_of,
@@ -14,6 +16,7 @@ use store_files::{
     unread_of,
 };
 use store_folder::{Described, SystemFolder};
+use store_repair::lost_places;
 
 /// How often a file is read at most that other runs replace meanwhile.
 const MOST_TIMES: usize = 8;
@@ -150,16 +153,22 @@ fn read_fitting(
         Err(fault) => return Ok(Some(fault)),
     };
     let mut unread = None;
+    let are_several = said.len() > 1;
     for described in said {
         let sought = Sought::new(file, described);
         let fragments = open_fragments(rt, &sought, Missing::Said)?;
-        let is_read = match output {
-            ReadTo::Nothing => set_that_fits(rt, &sought, &fragments)?.is_some(),
-            ReadTo::StandardOutput => print_fitting(rt, &sought, &fragments)?,
-            ReadTo::Path(path) => {
-                write_at(rt, &mut SystemFolder::new(rt), &sought, &fragments, path)?
-            }
-        };
+        // Any fragments, and none, would give a file without bytes.
+        let may_be_read = !are_several
+            || described.length > 0
+            || are_of_stripe(rt.alloc(), described.code, fragments.set)?;
+        let is_read = may_be_read
+            && match output {
+                ReadTo::Nothing => set_that_fits(rt, &sought, &fragments)?.is_some(),
+                ReadTo::StandardOutput => print_fitting(rt, &sought, &fragments)?,
+                ReadTo::Path(path) => {
+                    write_at(rt, &mut SystemFolder::new(rt), &sought, &fragments, path)?
+                }
+            };
         if is_read {
             return Ok(None);
         }
@@ -175,6 +184,12 @@ fn read_fitting(
         "{name}: the fragments that are there don't give the file that {name}.file describes"
     )?;
     Ok(Some(FileFault::Refused { what }))
+}
+
+/// Whether the fragments at some places determine all of a stripe.
+fn are_of_stripe(alloc: Global, code: Code, there: PlaceSet) -> Result<bool, AllocError> {
+    let lost = lost_places(alloc, code, there, code.others(there))?;
+    Ok(lost.several.is_empty())
 }
 
 /// Writes the file to standard output if the fragments give it, which is known before its first byte is written. Says whether they do.

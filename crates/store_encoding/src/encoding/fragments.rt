@@ -249,7 +249,7 @@ fn all_of(alloc: Global, digests: Vec<Option<io::Result<Digest>>>) -> io::Result
 }
 
 /// Why a file can't be made in a folder, with what to do if that isn't there.
-fn unmade(error: io::Error) -> io::Error {
+pub(crate) fn unmade(error: io::Error) -> io::Error {
     if error.kind() != ErrorKind::NotFound {
         return error;
     }

@@ -15,7 +15,7 @@ use crate::encoding::failures::after_discarding;
 use crate::encoding::lost_descriptions::mend_descriptions;
 use crate::encoding::source::no_name;
 use crate::encoding::stripe_files::{StripeFiles, are_apart, refuse_irregular};
-use crate::encoding::subfolders::make_folders;
+use crate::encoding::subfolders::make_own_folders;
 use crate::encoding::sums::{forget_digests, has_digest, write_new_sums};
 use crate::encoding::{Given, encode_as};
 use crate::own_folders::{has_folders, remove_own_folders};
@@ -39,7 +39,7 @@ pub(crate) fn replace<R: Threads + Sync>(
     let staged = staged_name(rt.alloc(), name)?;
     let staged = staged.as_str();
     let had_folders = has_folders(rt, target, staged)?;
-    if let Err(fault) = encode_staged(threads, rt, target, staged, given) {
+    if let Err(fault) = encode_staged(threads, rt, target, name, staged, given) {
         // All of it is of this run, and none replaces the file, whose encoding failed.
         let discarded = discard_staged(rt, target, staged);
         if !had_folders {
@@ -55,10 +55,11 @@ fn encode_staged<R: Threads + Sync>(
     threads: &R,
     rt: &HostRuntime,
     target: &mut Target<'_>,
+    name: &str,
     staged: &str,
     given: &Given<'_>,
 ) -> Result<(), FileFault> {
-    make_folders(rt, target, staged)?;
+    make_own_folders(rt, target, staged, name)?;
     encode_as(threads, rt, target, staged, given)
 }
 

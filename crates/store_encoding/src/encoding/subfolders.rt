@@ -1,4 +1,6 @@
 //! The folders of a stripe's fragments.
+use crate::encoding::fragments::unmade;
+use crate::own_folders::is_above;
 use std::alloc::AllocError;
 use std::fs;
 use std::io::{self, ErrorKind};
@@ -15,13 +17,34 @@ pub(crate) fn make_folders(
 ) -> Result<(), FileFault> {
     let folders = stripe_folders(rt.alloc(), &target.pattern, target.code, stripe)?;
     for inside in &folders {
-        make_each(rt, target, inside.as_str())?;
+        make_each(rt, target, inside.as_str(), &[])?;
     }
     Ok(())
 }
 
-/// Makes a folder in the store, and those that it is in.
-fn make_each(rt: &HostRuntime, target: &Target<'_>, inside: &str) -> Result<(), FileFault> {
+/// Makes the folders that a stripe has alone. Those that another stripe would have too, as those of disks, have to be there.
+pub(crate) fn make_own_folders(
+    rt: &HostRuntime,
+    target: &Target<'_>,
+    stripe: &str,
+    other: &str,
+) -> Result<(), FileFault> {
+    let alloc = rt.alloc();
+    let others = stripe_folders(alloc, &target.pattern, target.code, other)?;
+    let folders = stripe_folders(alloc, &target.pattern, target.code, stripe)?;
+    for inside in &folders {
+        make_each(rt, target, inside.as_str(), others.as_slice())?;
+    }
+    Ok(())
+}
+
+/// Makes a folder in the store, and those that it is in, but for some folders and those that these are in.
+fn make_each(
+    rt: &HostRuntime,
+    target: &Target<'_>,
+    inside: &str,
+    but: &[String],
+) -> Result<(), FileFault> {
     let alloc = rt.alloc();
     let mut name = String::new(alloc);
     for part in inside.split('/') {
@@ -29,8 +52,11 @@ fn make_each(rt: &HostRuntime, target: &Target<'_>, inside: &str) -> Result<(), 
             continue;
         }
         add_part(&mut name, part)?;
+        if is_above(name.as_str(), but) {
+            continue;
+        }
         if let Err(error) = make_inside(rt, target, name.as_str()) {
-            return Err(device(alloc, name.as_str(), error));
+            return Err(device(alloc, name.as_str(), unmade(error)));
         }
     }
     Ok(())
