@@ -1,0 +1,470 @@
+"""What `read`, `verify` and `list` have to say of a store in memory, and what `read` writes, by rebuild-store(1) and READING A FILE of
+rebuild-store(5)."""
+
+import json
+
+from modelled_code import determine_all, file_of, fragment_length, parts_of
+from modelled_names import EACH, PLACES, STAGED, SUMS, BadSums, digest, escaped, folder_in
+from modelled_store import DEVICE, IS_LINK, LINKED_FOLDER, NO_FILE, OF_LOST, USAGE, Fault, Opened, Unclear, state_of, survivors_of
+from modelled_tree import ABSENT, NO_FOLDER, File, Folder, Link, System, above
+
+NOT_DESCRIBED = "isn't a line with a length, a digest and a code"
+
+
+def no_file(store, name):
+    return Fault(f"{name}: is no file of the store {store.folder}")
+
+
+def not_given(name):
+    return Fault(f"{name}: the fragments that are there don't give the file that {name}.file describes")
+
+
+def copies_of(store, name, has_first):
+    """The names of the copies of a description, of either code; with that of the one that earlier builds made."""
+    names = store.naming.descriptions("12-2-2", name)
+    return names + [f"{name}.file"] * (has_first and f"{name}.file" not in names)
+
+
+def said_by(store, copy):
+    """What a copy says; none where none is there."""
+    try:
+        store.refuse_linked(copy)
+        said = store.described(copy)
+    except System as refused:
+        if refused.is_absent:
+            return None
+        raise Fault(f"{store.path(copy)}: {refused.words}", DEVICE) from None
+    if said is None:
+        raise Fault(f"{store.path(copy)}: {NOT_DESCRIBED}")
+    return said
+
+
+def said_of(store, copies):
+    """What copies say, each once, first what most say; and why those that can't be read can't."""
+    said, faults = [], []
+    for copy in copies:
+        try:
+            said.append(said_by(store, copy))
+        except Fault as fault:
+            faults.append(fault)
+    said = [it for it in said if it]
+    return sorted(dict.fromkeys(said), key=lambda it: -said.count(it)), faults
+
+
+def first_said(store, name):
+    """What the first copy of a description says that can be read."""
+    return next(iter([it for it in (said_or_none(store, copy) for copy in copies_of(store, name, False)) if it]), None)
+
+
+def said_or_none(store, copy):
+    try:
+        return said_by(store, copy)
+    except Fault:
+        return None
+
+
+def said_for_sure(store, name):
+    """What copies say, first what most say. If none says anything, one that can't be read isn't taken for nothing."""
+    said, faults = said_of(store, copies_of(store, name, False))
+    if faults and not said:
+        raise faults[-1]
+    return said
+
+
+def has_some(store, code, name):
+    """Whether there is anything under the name of a fragment."""
+    refused = None
+    for place in EACH if code == "12-2-2" else PLACES[code]:
+        try:
+            if store.is_there(store.naming.fragment(code, name, place)):
+                return True
+        except Fault as fault:
+            refused = fault
+    if refused:
+        raise refused
+    return False
+
+
+def is_whole(store, code, name):
+    """Whether so many fragments of a stripe are there that they give the others."""
+    there = []
+    for place in PLACES[code]:
+        try:
+            there += [place] * store.is_there(store.naming.fragment(code, name, place))
+        except Fault as fault:
+            store.say(fault.line)
+    return determine_all(code, there)
+
+
+class Sought:
+    """A file that is read as one of its descriptions has it."""
+
+    def __init__(self, store, name, described, says=True):
+        self.store, self.name, self.described, self.code = store, name, described, described.code
+        self.length, self.fragments, self.tried = fragment_length(self.code, described.length), {}, []
+        self.parts, self.refused = frozenset(parts_of(self.code, described.length)), None
+        for place in (place for place in EACH if place in PLACES[self.code]):
+            fragment = self.path_of(place)
+            try:
+                self.fragments[place] = store.fragment(fragment, self.length)
+            except System as refused:
+                is_lost = refused.is_absent or refused.words in OF_LOST
+                if says or not is_lost:
+                    store.say(f"{fragment}: left out: {refused.words}")
+                if not is_lost and not self.refused:
+                    self.refused = Fault(f"{store.path(fragment)}: {refused.words}", DEVICE)
+
+    def path_of(self, place):
+        return self.store.naming.fragment(self.code, self.name, place)
+
+    def gives(self, places):
+        """Whether the fragments at some places give the file. Those that are read as others were that don't aren't read once more."""
+        places = frozenset(places)
+        read = self.parts if self.parts <= places else places
+        if read in self.tried:
+            return None
+        self.tried.append(read)
+        found = file_of(self.code, self.described.length, {place: self.fragments[place] for place in places})
+        return found if found is not None and digest(found) == self.described.digest else None
+
+    def file(self):
+        """The file that the fragments give, or some of them; it is said which. None where none do."""
+        everything = list(self.fragments)
+        found = self.gives(everything)
+        if found is not None:
+            return found
+        found = self.gives(self.with_digests())
+        if found is not None:
+            self.store.say(f"{self.name}: read without the fragments that differ from {SUMS}")
+            return found
+        found = self.beside_descriptions()
+        return found if found is not None else self.without_some(everything)
+
+    def with_digests(self):
+        """The fragments that have their digests, or none."""
+        try:
+            sums = self.store.read_sums(self.store.follows)
+        except (BadSums, System):
+            return list(self.fragments)
+        return [place for place, data in self.fragments.items() if sums.get(self.path_of(place).encode(), digest(data)) == digest(data)]
+
+    def beside_descriptions(self):
+        """The file that those fragments give beside which it is described, or no other file is, also without one or two of these."""
+        copies = self.store.naming.descriptions(self.code, self.name)
+        beside, others = [], []
+        for place in self.fragments:
+            copy = next((it for it in copies if folder_in(it) == folder_in(self.path_of(place))), None)
+            try:
+                said = copy and self.store.described(copy)
+            except System:
+                said = None
+            (beside if said == self.described else others).append((place, said))
+        unopposed = [place for place in self.fragments if (place, None) in others or (place, self.described) in beside]
+        if len(unopposed) == len(self.fragments):
+            return None
+        found = self.gives(place for place, _ in beside)
+        found = self.gives(unopposed) if found is None else found
+        found = self.without_some(unopposed) if found is None else found
+        if found is not None:
+            self.store.say(f"{self.name}: read without the fragments beside which another file is described")
+        return found
+
+    def without_some(self, some):
+        """The file that some fragments give without one or two of them."""
+        for first in some:
+            found = self.gives(set(some) - {first})
+            if found is not None:
+                self.store.say(f"{self.name}: a fragment is damaged: read without {first}")
+                return found
+        for number, first in enumerate(some):
+            for second in some[number + 1:]:
+                found = self.gives(set(some) - {first, second})
+                if found is not None:
+                    self.store.say(f"{self.name}: fragments are damaged: read without {first} and {second}")
+                    return found
+        return None
+
+
+def read_stripe(store, name, write=lambda sought: sought.file()):
+    """Reads the file of a stripe by the first of its descriptions that is right."""
+    said = described_of(store, name)
+    right, refused = right_of(store, name), None
+    for described in said:
+        sought = Sought(store, name, described)
+        found = write(sought)
+        if found is not None:
+            if right and described != right:
+                # The right description should be gone by, and here another one is that the fragments give too, or of a file without bytes.
+                raise Unclear("a file is read by another description than the right one")
+            return found
+        refused = refused or sought.refused
+    raise refused or not_given(name)
+
+
+def right_of(store, name):
+    """What the right description says: that with the digest that SHA256SUMS has, or without such a digest what more than half say."""
+    copies = {copy: said_or_none(store, copy) for copy in copies_of(store, name, True)}
+    said = [it for it in copies.values() if it]
+    try:
+        sums = store.read_sums(store.follows)
+    except (BadSums, System):
+        sums = {}
+    listed = {sums[copy.encode()] for copy in copies if copy.encode() in sums}
+    if listed:
+        return next((it for it in said if digest(it.line()) in listed), None)
+    return next((it for it in said if 2 * said.count(it) > len(said)), None)
+
+
+def described_of(store, name):
+    """What describes the file of a name, first what most copies say."""
+    if store.naming.name("12-2-2", name, "x0") is None:
+        raise no_file(store, name)
+    said, faults = said_of(store, copies_of(store, name, True))
+    for fault in faults if said else faults[:-1]:
+        store.say(fault.line)
+    if said:
+        return said
+    if faults:
+        raise faults[-1]
+    try:
+        store.tree.look(store.folder, True)
+    except System as refused:
+        raise Fault(f"{store.folder}: {refused.words}", DEVICE) from None
+    if not has_some(store, "12-2-2", name):
+        raise no_file(store, name)
+    raise Fault(f"{name}: no description is there, as {name}.file, so nothing says how long it is")
+
+
+def inode(store, name):
+    """What is under a name, without following it; none where that can't be looked at."""
+    try:
+        return store.tree.look(store.path(name))
+    except System:
+        return None
+
+
+def shares_fragment(store, one, other):
+    """Whether a fragment of a stripe has a name of another stripe's too."""
+    for code in PLACES:
+        for place in PLACES[code]:
+            node = inode(store, store.naming.fragment(code, one, place))
+            if node is not None and node is inode(store, store.naming.fragment(code, other, place)):
+                return True
+    return False
+
+
+def has_enough(store, described, name):
+    """Whether so many fragments of the described length are there that they give the others."""
+    there, length = [], fragment_length(described.code, described.length)
+    for place in PLACES[described.code]:
+        try:
+            there += [place] * (store.fragment(store.naming.fragment(described.code, name, place), length) is not None)
+        except System:
+            pass
+    return determine_all(described.code, there)
+
+
+def is_newer(store, name):
+    """Whether all of a stripe is there that is to replace the one of a name."""
+    try:
+        said = said_for_sure(store, name + STAGED)
+    except Fault:
+        if shares_fragment(store, name + STAGED, name):
+            raise
+        return False
+    return any(is_whole(store, described.code, name + STAGED) for described in said)
+
+
+def read(store, name, output=None):
+    """The command `read`: gives what is written to standard output."""
+    newest = name + STAGED if is_newer(store, name) else name
+    if newest != name and not any(has_enough(store, it, newest) for it in said_for_sure(store, newest)):
+        # Without fragments enough to read it, it isn't the file, and here it is taken for it by the names that there are.
+        raise Unclear("what was to replace a file has too few fragments of its length")
+    if output is None:
+        try:
+            return read_stripe(store, newest)
+        except Fault:
+            # What is seen of the newer one is looked at again: a run may have replaced the file meanwhile.
+            is_newer(store, name)
+            raise
+    try:
+        read_stripe(store, newest, lambda sought: write_to(sought, output))
+    except Fault as fault:
+        if fault.status != USAGE and not fault.line.startswith(f"{output}: "):
+            is_newer(store, name)
+        raise
+    return b""
+
+
+def write_to(sought, output):
+    """Writes a file that is read to a path, unless that is the store's."""
+    store, tree = sought.store, sought.store.tree
+    try:
+        if is_in_store(sought, above(output)) or is_linked_into_store(sought, output):
+            raise Fault(f"{output}: is in a folder of the store", USAGE)
+        end = tree.look(output, True) if tree.is_there(output) and isinstance(tree.look(output), Link) and leads(tree, output) else None
+        if isinstance(end, File) and any(end is node for node in own_files(sought)):
+            raise Fault(f"{output}: leads to a file of the store", USAGE)
+        there = tree.look(output) if tree.is_there(output) else None
+        found = sought.file()
+        if found is None:
+            return None
+        if isinstance(there, Folder):
+            raise System("Is a directory")
+        if isinstance(there, Link):
+            node = tree.look(output, True)
+            if isinstance(node, Folder):
+                raise System("Is a directory")
+            node.data = found
+        else:
+            mode, owner = (there.mode & 0o777, there.owner) if there else (0o666 & ~store.umask, None)
+            tree.put(output, File(found, mode, owner) if there else File(found, mode))
+    except System as refused:
+        raise Fault(f"{output}: {refused.words}", DEVICE) from None
+    return found
+
+
+def leads(tree, path):
+    try:
+        return tree.look(path, True) is not None
+    except System as refused:
+        if refused.words != ABSENT:
+            raise
+        return False
+
+
+def is_linked_into_store(sought, output):
+    """Whether the links of a path lead into the store."""
+    tree = sought.store.tree
+    if not tree.is_there(output) or not isinstance(tree.look(output), Link):
+        return False
+    end = tree.real(output, True)
+    node = tree.at.get(end)
+    return (node is None or isinstance(node, File)) and is_in_store(sought, above(end))
+
+
+def is_in_store(sought, folder):
+    """Whether a folder is one of the store, or below one that may have fragments anywhere."""
+    store, tree, naming = sought.store, sought.store.tree, sought.store.naming
+    real, disks = tree.real(folder, True), naming.disks("12-2-2")
+    tree.look(folder, True)
+    inside, roots = [], []
+    (inside if disks is not None or naming.depth == 0 else roots).append(tree.real(store.folder, True))
+    for name in disks if disks is not None else naming.folders("12-2-2", sought.name):
+        parts = name.split("/") if name else []
+        for level, count in enumerate(range(len(parts), 0, -1)):
+            try:
+                path = tree.real(store.path("/".join(parts[:count])), True)
+                tree.look(path)
+            except System:
+                continue
+            (inside if disks is not None and level else roots).append(path)
+    return real in inside or any(real == it or real.startswith(it + "/") for it in roots)
+
+
+def own_files(sought):
+    """The files that the store has of a stripe, and its digests."""
+    store, naming = sought.store, sought.store.naming
+    names = [SUMS]
+    for code in PLACES:
+        names += [*naming.fragments(code, sought.name), *naming.descriptions(code, sought.name)]
+    for name in names:
+        try:
+            yield store.look(name)
+        except System:
+            pass
+
+
+def verify(store, names):
+    """The command `verify`."""
+    done = 0
+    if not names:
+        opened = Opened(store, None)
+        names = sorted(opened.listing.described, key=str.encode)
+        store.status = DEVICE if opened.has_unlisted else store.status
+    for name in names:
+        try:
+            read_stripe(store, name)
+            done += 1
+        except Fault as fault:
+            store.note(fault)
+    store.out.append(f"verified {counted(done)}; not as described: {len(names) - done}")
+
+
+def counted(files):
+    return f"{files} file" if files == 1 else f"{files} files"
+
+
+class Copies:
+    """The copies of a stripe's description as a code has them, and what is believed of the file."""
+
+    def __init__(self, store, sums, code, name):
+        self.store, self.code, self.is_unread = store, code, False
+        wanted = store.naming.descriptions(code, name)
+        names = wanted + [f"{name}.file"] * (f"{name}.file" not in wanted)
+        states = [self.state(copy) for copy in names]
+        listed = next((sums[copy.encode()] for copy in names if copy.encode() in (sums or {})), None)
+        said = [state for state in states if isinstance(state, tuple)]
+        if listed is None:
+            self.believed = next((it for it in said if 2 * said.count(it) > len(said)), None)
+        else:
+            self.believed = next((it for it in said if digest(it.line()) == listed), None)
+        self.are_whole = not (self.believed and self.believed.code != code or said and not self.believed)
+        for copy, state in zip(names, states):
+            if isinstance(state, System):
+                store.say(f"{copy}: can't be read: {state.words}")
+                self.is_unread = True
+            is_right = state == self.believed if isinstance(state, tuple) else state == "lost" and copy not in wanted
+            self.are_whole &= is_right
+
+    def state(self, copy):
+        """What a copy says, or that it is `lost` or `odd`, or why it can't be read."""
+        try:
+            try:
+                self.store.refuse_linked(copy)
+            except System as refused:
+                if refused.words == LINKED_FOLDER:
+                    return "lost"
+            return self.store.described(copy) or "odd"
+        except System as refused:
+            if refused.words in (ABSENT, NO_FOLDER):
+                return "lost"
+            return "odd" if refused.words in (NO_FILE, IS_LINK) else refused
+
+
+def listed(store, code, as_objects):
+    """The command `list`."""
+    opened, broken = Opened(store, code), 0
+    is_device = opened.has_unlisted
+    for name in sorted(opened.stripes, key=str.encode):
+        found, size, are_whole = opened.stripes[name], None, True
+        if name in opened.listing.described:
+            copies = Copies(store, opened.sums, opened.code, name)
+            size, are_whole = copies.believed and copies.believed.length, copies.are_whole
+            is_device |= copies.is_unread
+        for place in (place for place in PLACES[opened.code] if isinstance(found.get(place), tuple)):
+            store.say(f"{store.naming.fragment(opened.code, name, place)}: can't be looked at: {found[place][1]}")
+            is_device = True
+        lengths = {it for it in found.values() if isinstance(it, int)}
+        if size is None and len(lengths) > 1:
+            # Those of one length are there, and here none is counted.
+            raise Unclear("fragments of a file that isn't described have several lengths")
+        length = fragment_length(opened.code, size) if size is not None else lengths.pop() if len(lengths) == 1 else None
+        there = survivors_of(found, length)
+        state = state_of(opened.code, there, are_whole)
+        broken += state != "whole"
+        lost = len(PLACES[opened.code]) - len(there)
+        if as_objects:
+            row = {"name": name, "bytes": size, "code": opened.code, "fragments": len(there), "lost": lost, "state": state}
+            store.out.append(json.dumps(row, sort_keys=True))
+        else:
+            shown = "-" if size is None else size
+            store.out.append(escaped(f"{state} {shown} {opened.code} {len(there)}/{len(there) + lost} {name}"))
+    if len(opened.alone) == 1:
+        store.say(f"{store.naming.fragment(opened.code, *opened.alone[0])}: is named as a fragment, and of no stripe")
+    elif opened.alone:
+        first = store.naming.fragment(opened.code, *opened.alone[0])
+        store.say(f"{len(opened.alone)} files are named as fragments, and of no stripe: {first} and others")
+    store.err.append(f"{counted(len(opened.stripes))}; not whole: {broken}")
+    store.status = DEVICE if is_device else store.status

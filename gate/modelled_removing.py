@@ -1,0 +1,115 @@
+"""What `remove` has to take out of a store in memory, and to say, by rebuild-store(1) and rebuild-store(5)."""
+
+from modelled_names import STAGED, is_name
+from modelled_reading import counted, first_said, no_file
+from modelled_store import DEVICE, Fault, Opened
+from modelled_tree import System
+from modelled_writing import Encoding
+
+
+class Removing(Encoding):
+    """A run of `remove`."""
+
+    def run(self, files):
+        """Takes files out of the store by their names."""
+        opened, store, done = Opened(self.store, self.code, not self.trusts), self.store, 0
+        opened.listing.remove_leftovers()
+        store.take_sums()
+        for name in files:
+            self.code = opened.code
+            try:
+                self.remove(name)
+                done += 1
+            except Fault as fault:
+                store.note(fault)
+        store.out.append(f"removed {counted(done)}; not removed: {len(files) - done}")
+
+    def remove(self, name):
+        """Takes the file of a name out, by the code that its description says, with what was to replace it."""
+        staged = name + STAGED
+        if not is_name(self.naming, self.code, name):
+            raise no_file(self.store, name)
+        described = first_said(self.store, name) or first_said(self.store, staged)
+        self.code = described.code if described else self.code
+        fragments = self.naming.fragments(self.code, name)
+        if not is_name(self.naming, self.code, name) or any(self.is_of_another(it) for it in fragments):
+            raise no_file(self.store, name)
+        both = [Files(self, stripe) for stripe in (name, staged)]
+        lists = [names for files in both for names in (files.copies, files.fragments)]
+        for names in lists:
+            self.store.refuse_linked_names(names)
+        if not any([self.store.is_there(it) for names in lists for it in names]):
+            raise no_file(self.store, name)
+        fault = self.take_both(both)
+        if not fault or not any(files.may_be_described() for files in both):
+            self.remove_own_folders(staged, name)
+            self.remove_own_folders(name, staged)
+        if fault:
+            raise fault
+
+    def is_of_another(self, fragment):
+        """Whether the description of another file has the name of a fragment."""
+        return self.naming.is_description(self.code, fragment) and self.is_description(fragment)
+
+    def is_description(self, name):
+        try:
+            return self.store.described(name) is not None
+        except System as refused:
+            if refused.is_absent or refused.words.startswith("is "):
+                return False
+            raise Fault(f"{self.store.path(name)}: {refused.words}", DEVICE) from None
+
+    def take_both(self, both):
+        """Takes the lines of a file and of what was to replace it out, then their files. Gives why one stays, if one does."""
+        fault, store = None, self.store
+        for files in both:
+            store.forget(files.copies + files.fragments)
+        self.write_sums()
+        for files in both:
+            try:
+                self.take(files.copies)
+            except Fault as stays:
+                fault = fault or stays
+                break
+            try:
+                self.take(files.fragments)
+            except Fault as stays:
+                fault = fault or stays
+        for files in both if fault else []:
+            if files.is_described():
+                store.sums |= files.digests
+                store.is_changed |= bool(files.digests)
+        self.write_sums()
+        return fault
+
+    def write_sums(self):
+        self.store.write_sums()
+        self.store.is_changed = False
+
+
+class Files:
+    """The names of a stripe's files, and their digests."""
+
+    def __init__(self, run, stripe):
+        own = run.own_description(stripe)
+        self.run, self.copies, self.fragments = run, run.copies(stripe) + [own] * bool(own), run.naming.fragments(run.code, stripe)
+        names = [it.encode() for it in self.copies + self.fragments]
+        self.digests = {it: run.store.sums[it] for it in names if it in run.store.sums}
+
+    def may_be_described(self):
+        for copy in self.copies:
+            try:
+                if self.run.store.is_there(copy):
+                    return True
+            except Fault:
+                return True
+        return False
+
+    def is_described(self):
+        for copy in self.copies:
+            try:
+                if self.run.is_description(copy):
+                    return True
+            except Fault:
+                pass
+        return False
