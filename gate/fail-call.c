@@ -5,14 +5,16 @@
  * another program might have made, is under the name that a link is about to give. With `unsynced` no sync is made, and each answers that
  * it was; with `wait` the program makes the file FAIL_REACHED and goes on when FAIL_UNTIL is there, so that others come between. With
  * `slow` each read takes FAIL_NUMBER milliseconds more, as one from a slow disk, and no call fails.
- * FAIL_REST=kind has all later calls of its kind answer that error too, and FAIL_REST=path those of them at its path. Counting begins with
- * `main`. The file FAIL_RECORD gets what `struct record` has; it is mapped, so it is right however the program ends. Many runs may share a
- * start: fork-runs.h. */
+ * FAIL_REST=kind has all later calls of its kind answer that error too, and FAIL_REST=path those of them at its path. With FAIL_BUT no call
+ * is counted whose path begins so, and no thread can be had, so that the same calls have the same numbers in each run; calls that read a
+ * link or remove a folder are counted then too. Counting begins with `main`. The file FAIL_RECORD gets what `struct record` has; it is
+ * mapped, so it is right however the program ends. Many runs may share a start: fork-runs.h. */
 #define _GNU_SOURCE
 #include <dirent.h>
 #include <dlfcn.h>
 #include <errno.h>
 #include <fcntl.h>
+#include <pthread.h>
 #include <signal.h>
 #include <stdarg.h>
 #include <stdatomic.h>
@@ -46,6 +48,7 @@ static uint64_t number;
 static enum how how;
 static int error_number;
 static enum { NONE, ALL_OF_KIND, ALL_AT_PATH } fails_later;
+static const char *left_out = "";
 
 /* The system's function of this name, which is looked up once in each place that calls it. */
 #define SYSTEM(name)                                \
@@ -76,7 +79,7 @@ static const char *path_of(int file, char *room, size_t size)
 {
     char link[64];
     snprintf(link, sizeof link, "/proc/self/fd/%d", file);
-    ssize_t length = readlink(link, room, size - 1);
+    ssize_t length = SYSTEM(readlink)(link, room, size - 1);
     room[length < 0 ? 0 : length] = 0;
     return room;
 }
@@ -106,6 +109,16 @@ static int is_met(uint64_t own, const struct call *call)
     return 1;
 }
 
+/* Whether a call isn't counted. */
+static int is_left_out(const struct call *call)
+{
+    char room[MOST_PATH - 1];
+    if (*left_out == 0)
+        return 0;
+    const char *path = call->path == NULL ? path_of(call->file, room, sizeof room) : call->path;
+    return strncmp(path, left_out, strlen(left_out)) == 0;
+}
+
 /* Whether a call is the one that is to fail, or a later one of its kind where those fail too: of these alone files' paths are looked up. */
 static int is_chosen(const struct call *call)
 {
@@ -116,6 +129,8 @@ static int is_chosen(const struct call *call)
             usleep((useconds_t)(number * 1000));
         return 0;
     }
+    if (is_left_out(call))
+        return 0;
     uint64_t own = atomic_fetch_add(&record->calls, 1) + 1;
     if (own <= MOST_CALLS)
         memcpy(record->kinds[own - 1], call->kind, strnlen(call->kind, MOST_KIND));
@@ -296,6 +311,16 @@ int unlinkat(int folder, const char *path, int flags)
     return fails("unlink", path, NULL) ? -1 : SYSTEM(unlinkat)(folder, path, flags);
 }
 
+int rmdir(const char *path)
+{
+    return *left_out && fails("rmdir", path, NULL) ? -1 : SYSTEM(rmdir)(path);
+}
+
+ssize_t readlink(const char *path, char *to, size_t size)
+{
+    return *left_out && fails("readlink", path, NULL) ? -1 : SYSTEM(readlink)(path, to, size);
+}
+
 int mkdir(const char *path, mode_t mode)
 {
     return fails("mkdir", path, NULL) ? -1 : SYSTEM(mkdir)(path, mode);
@@ -304,6 +329,11 @@ int mkdir(const char *path, mode_t mode)
 int symlink(const char *to, const char *path)
 {
     return fails("symlink", path, NULL) ? -1 : SYSTEM(symlink)(to, path);
+}
+
+int pthread_create(pthread_t *thread, const pthread_attr_t *about, void *(*body)(void *), void *with)
+{
+    return *left_out == 0 ? SYSTEM(pthread_create)(thread, about, body, with) : EAGAIN;
 }
 
 static const char *text_of(const char *name)
@@ -328,6 +358,7 @@ static void read_settings(void)
     number = strtoull(text_of("FAIL_NUMBER"), NULL, 10);
     const char *rest = text_of("FAIL_REST");
     fails_later = strcmp(rest, "kind") == 0 ? ALL_OF_KIND : strcmp(rest, "path") == 0 ? ALL_AT_PATH : NONE;
+    left_out = text_of("FAIL_BUT");
     read_how(text_of("FAIL_HOW"));
 }
 

@@ -87,10 +87,11 @@ def built():
 
 
 class Calls:
-    """The library of fail-call.c in a folder. With `forks` the runs of a program share a start."""
+    """The library of fail-call.c in a folder. With `forks` the runs of a program share a start, and with `but` calls aren't counted whose
+    paths begin so, and there are no threads: the same calls then have the same numbers in each run."""
 
-    def __init__(self, folder, forks=False):
-        self.folder = folder
+    def __init__(self, folder, forks=False, but=""):
+        self.folder, self.but = folder, but
         self.file = folder / "fail-call.so"
         # One that is there may be in use.
         if not self.file.exists():
@@ -99,7 +100,7 @@ class Calls:
 
     def run(self, words, number=0, how="", rest="", output=None, given=None):
         """Runs the program to its end, where the call of this number fails in this way. What is given is all of its standard input."""
-        settings = {"FAIL_NUMBER": str(number), "FAIL_HOW": str(how), "FAIL_REST": rest}
+        settings = {"FAIL_NUMBER": str(number), "FAIL_HOW": str(how), "FAIL_REST": rest, "FAIL_BUT": self.but}
         with ending(words):
             ran = self.library.run([str(it) for it in words], settings, SECONDS, given, output)
         counts, calls, _ = COUNTS.unpack_from(ran.record)
