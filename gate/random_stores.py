@@ -4,9 +4,9 @@ or something else, with digests and descriptions, and what else may be in such a
 import dataclasses
 import os
 
-from modeled_codes import DATA_COUNT, places_of
-from modeled_listing import NOBODY, WIDE
-from modeled_names import Pattern
+from stripe_model_codes import DATA_COUNT, places_of
+from stripe_model_listing import NOBODY, WIDE
+from stripe_model_names import Pattern
 from reference import CODES, product
 from store import combined, stripe
 from stores import description, digest

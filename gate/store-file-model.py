@@ -13,11 +13,11 @@ import sys
 
 # No compiled copy of the modules is left beside them.
 sys.dont_write_bytecode = True
-import modelled_damage as damage  # noqa: E402
-import modelled_others as others  # noqa: E402
-import modelled_remains as remains  # noqa: E402
-import modelled_states as states  # noqa: E402
-from modelled_names import can_encode  # noqa: E402
+import file_model_damage as damage  # noqa: E402
+import file_model_others as others  # noqa: E402
+import file_model_remains as remains  # noqa: E402
+import file_model_states as states  # noqa: E402
+from file_model_names import can_encode  # noqa: E402
 from stores import try_all  # noqa: E402
 
 # The model itself is held to what the pages promise in one of so many stores.

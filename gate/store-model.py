@@ -15,7 +15,7 @@ import tempfile
 # No compiled copy of the modules is left beside them.
 sys.dont_write_bytecode = True
 import stores  # noqa: E402
-from modeled_cases import try_cases  # noqa: E402
+from stripe_model_cases import try_cases  # noqa: E402
 from random_stores import DISKS, FOLDERS, ODD_NAMES, PLAIN, Mix  # noqa: E402
 from stores import Program, Skipped  # noqa: E402
 

@@ -25,6 +25,7 @@ use placing::is_there_already;
 use replacing::{finish_replacing, replace};
 use source::{is_changed, no_name, regular, stripe_name};
 use std::fs::Metadata;
+use std::io::ErrorKind;
 use std::thread::Threads;
 use store_faults::{FileFault, fragment_name, source_fault};
 use store_files::{Target, is_staged, is_there};
@@ -259,6 +260,7 @@ fn refuse_description(
     }
     match read_description(rt, path.as_str(), target.links) {
         Ok(Some(there)) if described == Some(there) => Ok(()),
+        Err(error) if error.kind() == ErrorKind::OutOfMemory => Err(FileFault::OutOfMemory),
         _ => Err(is_there_already(rt, description)),
     }
 }

@@ -1,10 +1,10 @@
 """What rebuild-store(1) promises whatever is in a store, to which the model itself is held: an encoded file is read, and is whole; other
 files stay as they were; a file that isn't encoded is what it was; of a file that was taken out nothing is left."""
 
-from modelled_names import CODES, STAGED, digest
-from modelled_reading import listed, read
-from modelled_runs import STORE
-from modelled_store import Fault, Store, Unclear
+from file_model_names import CODES, STAGED, digest
+from file_model_reading import listed, read
+from file_model_runs import STORE
+from file_model_store import Fault, Store, Unclear
 from stores import hold
 
 

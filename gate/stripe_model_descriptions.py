@@ -4,10 +4,10 @@ import collections
 import dataclasses
 import os
 
-import modeled_codes as codes
-from modeled_listing import MOST_OF_DESCRIPTION, Description, description_at, group_of, has_right, look
-from modeled_names import KEPT, folder_in
-from modeled_stripes import BEHIND_LINK, DIFFERS, LOST, NO_FILE, UNREAD, UNWRITTEN, file_at, given, place_for, refused_folder
+import stripe_model_codes as codes
+from stripe_model_listing import MOST_OF_DESCRIPTION, Description, description_at, group_of, has_right, look
+from stripe_model_names import KEPT, folder_in
+from stripe_model_stripes import BEHIND_LINK, DIFFERS, LOST, NO_FILE, UNREAD, UNWRITTEN, file_at, given, place_for, refused_folder
 from stores import digest
 
 NO_LINE = "isn't a line with a length, a digest and a code"
@@ -45,6 +45,8 @@ class Copies:
         names = stripe.pattern.descriptions(stripe.name)
         first = f"{stripe.name}.file"
         self.all = [self.copy(name, True) for name in names] + [self.copy(first, False)] * (first not in names)
+        # What isn't one and has the name of the one that earlier builds made is somebody else's, unless the digests name it.
+        self.all = [copy for copy in self.all if copy.is_wanted or copy.name in sums or copy.kind not in ("odd", "long", "other")]
         self.listed = next((sums[copy.name] for copy in self.all if copy.name in sums), None)
 
     def copy(self, name, is_wanted):

@@ -3,10 +3,10 @@ rebuild-store(5)."""
 
 import json
 
-from modelled_code import determine_all, file_of, fragment_length, parts_of
-from modelled_names import EACH, PLACES, STAGED, SUMS, BadSums, digest, escaped, folder_in
-from modelled_store import DEVICE, IS_LINK, LINKED_FOLDER, NO_FILE, OF_LOST, USAGE, Fault, Opened, Unclear, state_of, survivors_of
-from modelled_tree import ABSENT, NO_FOLDER, File, Folder, Link, System, above
+from file_model_code import determine_all, file_of, fragment_length, parts_of
+from file_model_names import EACH, PLACES, STAGED, SUMS, BadSums, digest, escaped, folder_in
+from file_model_store import DEVICE, IS_LINK, LINKED_FOLDER, NO_FILE, OF_LOST, USAGE, Fault, Opened, Unclear, state_of, survivors_of
+from file_model_tree import ABSENT, NO_FOLDER, File, Folder, Link, System, above
 
 NOT_DESCRIBED = "isn't a line with a length, a digest and a code"
 
@@ -403,6 +403,8 @@ class Copies:
         self.store, self.code, self.is_unread = store, code, False
         wanted = store.naming.descriptions(code, name)
         names = wanted + [f"{name}.file"] * (f"{name}.file" not in wanted)
+        # What isn't one and has the name of the one that earlier builds made is somebody else's, unless the digests name it.
+        names = [copy for copy in names if copy in wanted or copy.encode() in (sums or {}) or self.state(copy) != "odd"]
         states = [self.state(copy) for copy in names]
         listed = next((sums[copy.encode()] for copy in names if copy.encode() in (sums or {})), None)
         said = [state for state in states if isinstance(state, tuple)]

@@ -5,11 +5,11 @@ import dataclasses
 import json
 import os
 
-import modeled_codes as codes
-from modeled_descriptions import Copies, Descriptions
-from modeled_listing import Listing
-from modeled_names import Pattern, escaped
-from modeled_stripes import DAMAGE, GUESS, LENGTHS, NO_SURVIVOR, NOT_SHOWN, OF_DEVICE, Outcome, Stripe
+import stripe_model_codes as codes
+from stripe_model_descriptions import Copies, Descriptions
+from stripe_model_listing import Listing
+from stripe_model_names import Pattern, escaped
+from stripe_model_stripes import DAMAGE, GUESS, LENGTHS, NO_SURVIVOR, NOT_SHOWN, OF_DEVICE, Outcome, Stripe
 
 ALONE = "is named as a fragment, and of no stripe"
 REMOVED = "was left by a run that was killed, and is removed"

@@ -1,13 +1,13 @@
 """What runs that were killed have left in a store, at random, and what may have become of that."""
 
-from modelled_damage import (
+from file_model_damage import (
     DIGITS, add_own_description, cut_fragments, damage_descriptions, damage_fragments, exchange_descriptions, link_folders, link_fragments,
     lose_all_fragments, lose_descriptions, lose_folders, lose_fragments, lose_some_sums, lose_sums, older_disks, some_file,
 )
-from modelled_names import PLACES, STAGED, can_encode, digest, folder_in
-from modelled_others import IS_ROOT, give_away
-from modelled_runs import STORE
-from modelled_tree import MINE, File, Folder
+from file_model_names import PLACES, STAGED, can_encode, digest, folder_in
+from file_model_others import IS_ROOT, give_away
+from file_model_runs import STORE
+from file_model_tree import MINE, File, Folder
 
 
 def leave_unfinished(case):

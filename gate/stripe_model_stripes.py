@@ -5,9 +5,9 @@ import dataclasses
 import os
 import stat
 
-import modeled_codes as codes
-from modeled_listing import ABSENT, DANGLING, end_of_links, group_of, has_right
-from modeled_names import KEPT, escaped
+import stripe_model_codes as codes
+from stripe_model_listing import ABSENT, DANGLING, end_of_links, group_of, has_right
+from stripe_model_names import KEPT, escaped
 from stores import digest
 
 LOST = "is lost"

@@ -1,10 +1,10 @@
 """What else may be in a store or beside it, at random: files and folders of others, stripes of the other code or of other software, owners
 and rights, and paths to which files are read."""
 
-from modelled_damage import copies, fragments, lose_sums
-from modelled_names import CODES, KEPT, PLACES, folder_in
-from modelled_runs import STORE
-from modelled_tree import MINE, File, Folder, Link
+from file_model_damage import copies, fragments, lose_sums
+from file_model_names import CODES, KEPT, PLACES, folder_in
+from file_model_runs import STORE
+from file_model_tree import MINE, File, Folder, Link
 
 IS_ROOT = MINE[0] == 0
 

@@ -2,12 +2,12 @@
 
 import os
 
-from modelled_code import determine_all
-from modelled_names import (
+from file_model_code import determine_all
+from file_model_names import (
     CODES, EACH, LOCK, LOCKED, MOST_OF_DESCRIPTION, PLACES, SUMS, BadSums, described_by, described_name, digest, escaped, folder_in,
     is_of_runs, sums_by, sums_text,
 )
-from modelled_tree import ABSENT, NO_FOLDER, File, Folder, Link, System, below
+from file_model_tree import ABSENT, NO_FOLDER, File, Folder, Link, System, below
 
 DONE, LEFT, USAGE, DEVICE = 0, 1, 2, 3
 NO_FILE, IS_LINK = "is no regular file", "is a link, and links aren't followed"

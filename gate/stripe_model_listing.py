@@ -6,7 +6,7 @@ import os
 import re
 import stat
 
-from modeled_names import OF_RUNS, Pattern, described_stripe, folder_in, is_of_part, last_of
+from stripe_model_names import OF_RUNS, Pattern, described_stripe, folder_in, is_of_part, last_of
 
 DESCRIPTION = re.compile(rb"(0|[1-9][0-9]*) ([0-9a-f]{64}) (6-2-2|12-2-2)\n")
 MOST_OF_DESCRIPTION = 93

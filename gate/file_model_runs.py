@@ -5,11 +5,11 @@ import collections
 import json
 import subprocess
 
-from modelled_reading import listed, read, verify
-from modelled_removing import Removing
-from modelled_store import Fault, Store
-from modelled_tree import difference, seen
-from modelled_writing import Encoding
+from file_model_reading import listed, read, verify
+from file_model_removing import Removing
+from file_model_store import Fault, Store
+from file_model_tree import difference, seen
+from file_model_writing import Encoding
 from stores import Program, hold
 
 STORE, SECONDS = "store", 60

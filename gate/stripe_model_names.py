@@ -2,7 +2,7 @@
 
 import re
 
-from modeled_codes import ORDER, places_of
+from stripe_model_codes import ORDER, places_of
 from stores import digest
 
 SHARDS = {

@@ -1,9 +1,9 @@
 """What may become of a store's files, at random: fragments, descriptions, folders and digests that are lost, damaged or others, or no files
 at all."""
 
-from modelled_names import CODES, STAGED, description_of, digest, folder_in, sums_text
-from modelled_runs import STORE
-from modelled_tree import Fifo, File, Folder, Link
+from file_model_names import CODES, STAGED, description_of, digest, folder_in, sums_text
+from file_model_runs import STORE
+from file_model_tree import Fifo, File, Folder, Link
 
 DIGITS = "0123456789abcdef"
 

@@ -5,7 +5,7 @@ import pathlib
 import sys
 
 sys.path.append(str(pathlib.Path(__file__).resolve().parent.parent / "tools"))
-from modelled_names import DATA, EACH, PLACES  # noqa: E402
+from file_model_names import DATA, EACH, PLACES  # noqa: E402
 from reference import code_of, inverse, product  # noqa: E402
 from store import combined  # noqa: E402
 

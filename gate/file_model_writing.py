@@ -1,12 +1,12 @@
 """What `encode` has to make of a store in memory, and to say, by rebuild-store(1) and rebuild-store(5)."""
 
-from modelled_code import determine_all, fragments_of
-from modelled_names import (
+from file_model_code import determine_all, fragments_of
+from file_model_names import (
     CODES, DATA, EACH, MOST_OF_DESCRIPTION, PLACES, STAGED, can_encode, description_of, digest, folder_in, is_of_runs,
 )
-from modelled_reading import Sought, counted, has_some, inode, is_whole, not_given, said_for_sure, shares_fragment
-from modelled_store import DEVICE, Fault, Listing, Unclear
-from modelled_tree import ABSENT, NO_FOLDER, File, Folder, Link, System, below
+from file_model_reading import Sought, counted, has_some, inode, is_whole, not_given, said_for_sure, shares_fragment
+from file_model_store import DEVICE, Fault, Listing, Unclear
+from file_model_tree import ABSENT, NO_FOLDER, File, Folder, Link, System, below
 
 NO_NAME, NO_FOLDERS = "a stripe can't have this name", "isn't there: make this folder, or give --make-folders"
 TAKEN = "is there already, with other bytes: --replace replaces the file"

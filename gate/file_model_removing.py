@@ -1,10 +1,10 @@
 """What `remove` has to take out of a store in memory, and to say, by rebuild-store(1) and rebuild-store(5)."""
 
-from modelled_names import STAGED, is_name
-from modelled_reading import counted, first_said, no_file
-from modelled_store import DEVICE, Fault, Opened
-from modelled_tree import System
-from modelled_writing import Encoding
+from file_model_names import STAGED, is_name
+from file_model_reading import counted, first_said, no_file
+from file_model_store import DEVICE, Fault, Opened
+from file_model_tree import System
+from file_model_writing import Encoding
 
 
 class Removing(Encoding):

@@ -2,12 +2,12 @@
 
 import random
 
-from modelled_code import fragments_of
-from modelled_names import CODES, PLACES, STAGED, SUMS, Naming, description_of, digest, folder_in, sums_text
-from modelled_promises import Promises
-from modelled_runs import STORE, Command, carry_out
-from modelled_store import Unclear
-from modelled_tree import Fifo, File, Folder, Link, Tree
+from file_model_code import fragments_of
+from file_model_names import CODES, PLACES, STAGED, SUMS, Naming, description_of, digest, folder_in, sums_text
+from file_model_promises import Promises
+from file_model_runs import STORE, Command, carry_out
+from file_model_store import Unclear
+from file_model_tree import Fifo, File, Folder, Link, Tree
 
 PATTERNS = (("{stripe}.{place}", "plain"), ("{stripe}/{place}", "plain"), ("disk{shard}/{stripe}", "plain"), ("{place}/{stripe}", "plain"),
             ("disk{shard}/a7/{stripe}", "plain"), ("{stripe}.{shard}", "plain"), ("{stripe}.{shard}", "groups"),

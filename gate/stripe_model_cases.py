@@ -11,10 +11,10 @@ import re
 import stat
 import subprocess
 
-from modeled_listing import NOBODY, Listing, has_right
-from modeled_names import KEPT, OF_RUNS, RUN, escaped
-from modeled_runs import REMOVED, Options, Run, finish, finish_lost
-from modeled_stripes import File, file_at
+from stripe_model_listing import NOBODY, Listing, has_right
+from stripe_model_names import KEPT, OF_RUNS, RUN, escaped
+from stripe_model_runs import REMOVED, Options, Run, finish, finish_lost
+from stripe_model_stripes import File, file_at
 from random_stores import RandomStore
 from stores import SECONDS, Fault, Program
 
