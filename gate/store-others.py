@@ -1,6 +1,6 @@
 #!/usr/bin/env python3
-"""Tries rebuild-store beside what is somebody else's: files that are named as those of a store are, what links lead to, and what stays in
-the way.
+"""Tries rebuild-store beside what is somebody else's, or is an older file's: files that are named as those of a store are, what links lead
+to, descriptions that differ, and what stays in the way.
 
     store-others.py [PROGRAM [TEST]]
 
@@ -173,6 +173,75 @@ def test_links_stay_links(place, choose):
     for number in range(max(1, many - 300), many + 1):
         lay_again()
         hold_link(library.run(words, refusal=refusals.Refusal(allocation=number)))
+
+
+def test_wrong_description_of_an_empty_file(place, choose):
+    """A copy of the description that says an empty file is believed neither against the digests nor without fragments of it."""
+    data, empty = choose.randbytes(3_000), description(b"")
+    for has_sums in (True, False):
+        store, output = place / f"store-{has_sums}", place / f"output-{has_sums}"
+        run("encode", store, source(place, "a", data), status=0)
+        (store / "a.file").write_text(empty)
+        if not has_sums:
+            (store / "SHA256SUMS").unlink()
+        run("read", "-o", output, store, "a", status=0)
+        hold(output.read_bytes() == data, "other bytes are read")
+        run("verify", store, "a", status=0)
+        # If the file isn't there any more, it isn't an empty one either.
+        for name in ("x0", "x1", "x2", "y0", "y1"):
+            (store / f"a.{name}").unlink()
+        run("read", "-o", output, store, "a", status=1)
+        run("verify", store, "a", status=1)
+        hold(output.read_bytes() == data, "the output was replaced")
+
+
+def test_old_empty_file_on_some_disks(place, choose):
+    """An older, empty file on three disks isn't read where too few of the newer one's are there."""
+    store, old, data = place / "store", place / "old", choose.randbytes(3_000)
+    run("encode", "--make-folders", *DISKS, store, source(place, "a", data), status=0)
+    run("encode", "--make-folders", *DISKS, old, source(place, "a", b""), status=0)
+    for number in (1, 4, 7):
+        for name in ("a", "a.file"):
+            (store / f"disk{number}/{name}").write_bytes((old / f"disk{number}/{name}").read_bytes())
+    output = place / "output"
+    run("read", *DISKS[:2], "-o", output, store, "a", status=0)
+    hold(output.read_bytes() == data, "other bytes are read")
+    for number in (2, 5):
+        shutil.rmtree(store / f"disk{number}")
+    said = run("read", *DISKS[:2], store, "a", status=1)
+    hold("the fragments that are there don't give the file that a.file describes" in said, said)
+
+
+def test_removal_by_most_descriptions(place, choose):
+    """A file goes by the code that the digests, or most copies of its description, say."""
+    names, data = ["--names", "disk{shard}/{stripe}"], choose.randbytes(900)
+    for has_sums in (True, False):
+        store = place / f"store-{has_sums}"
+        run("encode", "--make-folders", *names, "--code", "12-2-2", store, source(place, "a", data), status=0)
+        run("encode", "--make-folders", *names, "--code", "12-2-2", "--as", "b", store, place / "a", status=0)
+        (store / "disk0/a.file").write_text(description(data))
+        if not has_sums:
+            (store / "SHA256SUMS").unlink()
+        run("remove", *names, "--code", "12-2-2", store, "a", status=0)
+        hold(not [*store.glob("disk*/a"), *store.glob("disk*/a.file")], f"{sorted(there(store))}")
+        hold(len([*store.glob("disk*/b"), *store.glob("disk*/b.file")]) == 32, f"{sorted(there(store))}")
+
+
+def test_replacement_makes_no_folder_of_a_disk(place, choose):
+    """The folder of a disk that is missing isn't made to replace a file, and those of the file are."""
+    store, data = place / "store", choose.randbytes(900)
+    run("encode", "--make-folders", *DISKS, store, source(place, "a", data), status=0)
+    shutil.rmtree(store / "disk3")
+    before = there(store)
+    said = run("encode", "--replace", *DISKS, store, source(place, "a", choose.randbytes(901)), status=3)
+    hold("disk3: isn't there: make this folder, or give --make-folders\n" in said, said)
+    hold(not (store / "disk3").exists() and there(store) == before, f"{sorted(there(store))}")
+    run("encode", "--replace", "--make-folders", *DISKS, store, place / "a", status=0)
+    hold((store / "disk3/a").exists(), f"{sorted(there(store))}")
+    names, store = ["--names", "{stripe}/{place}", "--code", "6-2-2"], place / "folders"
+    run("encode", "--make-folders", *names, store, source(place, "b", data), status=0)
+    run("encode", "--replace", *names, store, source(place, "b", choose.randbytes(700)), status=0)
+    hold(sorted(path.name for path in store.iterdir()) == ["SHA256SUMS", "b"], f"{sorted(there(store))}")
 
 
 if __name__ == "__main__":
