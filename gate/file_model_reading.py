@@ -51,9 +51,20 @@ def said_of(store, copies):
     return sorted(dict.fromkeys(said), key=lambda it: -said.count(it)), faults
 
 
-def first_said(store, name):
-    """What the first copy of a description says that can be read."""
-    return next(iter([it for it in (said_or_none(store, copy) for copy in copies_of(store, name, False)) if it]), None)
+def listed_first(store, copies, said):
+    """What copies say, first what the digests name."""
+    try:
+        sums = store.read_sums(store.follows) if len(said) > 1 else {}
+    except (BadSums, System):
+        return said
+    listed = {sums[copy.encode()] for copy in copies if copy.encode() in sums}
+    return sorted(said, key=lambda it: digest(it.line()) not in listed)
+
+
+def believed(store, name):
+    """What is believed of the copies of a description that can be read."""
+    copies = copies_of(store, name, False)
+    return next(iter(listed_first(store, copies, said_of(store, copies)[0])), None)
 
 
 def said_or_none(store, copy):
@@ -191,7 +202,9 @@ def read_stripe(store, name, write=lambda sought: sought.file()):
     right, refused = right_of(store, name), None
     for described in said:
         sought = Sought(store, name, described)
-        found = write(sought)
+        # Any fragments, and none, would give a file without bytes.
+        may_be = len(said) == 1 or described.length or determine_all(described.code, list(sought.fragments))
+        found = write(sought) if may_be else None
         if found is not None:
             if right and described != right:
                 # The right description should be gone by, and here another one is that the fragments give too, or of a file without bytes.
@@ -223,7 +236,7 @@ def described_of(store, name):
     for fault in faults if said else faults[:-1]:
         store.say(fault.line)
     if said:
-        return said
+        return listed_first(store, copies_of(store, name, True), said)
     if faults:
         raise faults[-1]
     try:

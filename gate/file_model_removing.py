@@ -1,7 +1,7 @@
 """What `remove` has to take out of a store in memory, and to say, by rebuild-store(1) and rebuild-store(5)."""
 
 from file_model_names import STAGED, is_name
-from file_model_reading import counted, first_said, no_file
+from file_model_reading import believed, counted, no_file
 from file_model_store import DEVICE, Fault, Opened
 from file_model_tree import System
 from file_model_writing import Encoding
@@ -29,7 +29,7 @@ class Removing(Encoding):
         staged = name + STAGED
         if not is_name(self.naming, self.code, name):
             raise no_file(self.store, name)
-        described = first_said(self.store, name) or first_said(self.store, staged)
+        described = believed(self.store, name) or believed(self.store, staged)
         self.code = described.code if described else self.code
         fragments = self.naming.fragments(self.code, name)
         if not is_name(self.naming, self.code, name) or any(self.is_of_another(it) for it in fragments):

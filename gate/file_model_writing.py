@@ -79,12 +79,14 @@ class Encoding:
             raise Fault(f"{path}: is no regular file")
         return node.data
 
-    def make_folders(self, stripe):
-        """Makes the folders of a stripe's fragments."""
+    def make_folders(self, stripe, but=()):
+        """Makes the folders of a stripe's fragments, but for some and those that these are in."""
         for folder in self.naming.folders(self.code, stripe):
             made = ""
             for part in folder.split("/") if folder else []:
                 made = below(made, part)
+                if any(it == made or it.startswith(f"{made}/") for it in but):
+                    continue
                 try:
                     self.store.refuse_linked(made)
                     path = self.store.path(made)
@@ -183,10 +185,10 @@ class Encoding:
         """Encodes a file under the name of what replaces another, and replaces that."""
         staged, disks = name + STAGED, self.naming.disks(self.code)
         if not self.makes_folders and not all(self.store.is_there(disk) for disk in disks or ()):
-            raise Unclear("the folders of disks must be there, and here the program makes them, though nothing asks for that")
+            raise Unclear("the folders of disks must be there, and which of them is said to be missing depends on the order of calls")
         had_folders = any(self.store.is_there(folder) for folder in self.naming.folders(self.code, staged) if folder)
         try:
-            self.make_folders(staged)
+            self.make_folders(staged, self.naming.folders(self.code, name))
             self.encode_as(staged, data)
         except Fault:
             self.discard(staged)

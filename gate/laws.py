@@ -269,6 +269,8 @@ class Judge:
                 found += WATCHERS if path.startswith("out") else []
             else:
                 found += ["out/report", path] if path == "out/real" else [path]
+        # A folder in which links end is named by these.
+        found += [name for name, end in self.links().items() if self.failed.kind == "look" and os.path.dirname(end) in self.failed.paths]
         named = [shown(name.removesuffix(KEPT)) for path in found for name in self.names_of(path)]
         return named + [shown(str(self.trial.place / path)) for path in found]
 

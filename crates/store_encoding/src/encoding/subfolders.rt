@@ -56,7 +56,8 @@ fn make_each(
             continue;
         }
         if let Err(error) = make_inside(rt, target, name.as_str()) {
-            return Err(device(alloc, name.as_str(), unmade(error)));
+            let error = if but.is_empty() { error } else { unmade(error) };
+            return Err(device(alloc, name.as_str(), error));
         }
     }
     Ok(())
