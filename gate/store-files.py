@@ -2739,6 +2739,8 @@ def test_most_descriptions_are_tried_first(place, choose):
     """A description that says otherwise than most copies costs no reads of fragments."""
     store, calls = place / "store", Calls(place, forks=True)
     run("encode", "--make-folders", *DISKS, store, source(place, "a", choose.randbytes(6_000)), status=0)
+    # They would say which is right, and be read for that.
+    (store / "SHA256SUMS").unlink()
 
     def reads():
         ended = calls.run([PROGRAM, "verify", *DISKS, store, "a"])
