@@ -5,7 +5,7 @@ pub(crate) mod tasks;
 
 use crate::output::counters_file::CountersFile;
 use crate::output::row_stream::RowStream;
-use lrc_code::Code;
+use lrc_code::{Code, PlaceSet};
 use std::alloc::{AllocError, Global};
 use std::sync::Arc;
 use std::sync::atomic::{AtomicUsize, Ordering};
@@ -19,7 +19,7 @@ use store_reading::{CopyWork, DescribedStripe, tend_descriptions};
 use store_repair::{
     Finding, Found, Reason, Repair, Stripe, StripeOutcome, plan_stripe, repair_stripe, scrub_stripe,
 };
-use store_reports::{Contents, Done, without_left, without_repeated};
+use store_reports::{Contents, Done, without_left, without_refused, without_repeated};
 use tasks::{bytes_read, survivor_bytes};
 
 /// The memory that is taken and given back before the work. The C library gives free memory back to the system after each stripe, unless
@@ -229,10 +229,10 @@ fn take_stripe(
     let counters = stripes.opened.counters;
     let bytes = work.bytes_of(system.alloc(), stripes.site.sums.is_some(), stripe)?;
     reads.begin(bytes);
-    let outcome = outcome_of(system.alloc(), store, work, stripe)?;
+    let outcome = outcome_of(system.alloc(), store, stripes.site, work, stripe)?;
     counters.progress.note(&outcome);
     reads.end(work.units_of(&outcome), bytes);
-    let descriptions = descriptions_of(system, stripes, work, stripe, outcome.length)?;
+    let descriptions = descriptions_of(system, stripes, work, stripe, &outcome)?;
     if let Some(descriptions) = &descriptions {
         counters
             .progress
@@ -251,21 +251,28 @@ fn take_stripe(
     Ok(())
 }
 
-/// Does the work with the descriptions of a stripe whose fragments have so many bytes, if it has any.
+/// Does the work with the descriptions of a stripe of whose fragments this became, if it has any.
 fn descriptions_of(
     system: &HostRuntime,
     stripes: &Stripes<'_>,
     work: Work,
     stripe: &Stripe<'_>,
-    length: usize,
+    outcome: &StripeOutcome,
 ) -> Result<Option<Descriptions>, AllocError> {
     let store = stripes.opened.store;
     if !store.found.described.contains(stripe.name) {
         return Ok(None);
     }
+    let mut said = PlaceSet::empty();
+    for finding in &outcome.findings {
+        if let Some(place) = finding.place {
+            said = said.with(place);
+        }
+    }
     let described = DescribedStripe {
         name: stripe.name,
-        length,
+        length: outcome.length,
+        said,
     };
     let copies = work.with_copies();
     let done = tend_descriptions(system, stripes.site, &described, copies)?;
@@ -276,6 +283,7 @@ fn descriptions_of(
 fn outcome_of(
     alloc: Global,
     store: &mut SeparateStore<'_, CountingFolder<SystemFolder<'_>>>,
+    site: &Site<'_>,
     work: Work,
     stripe: &Stripe<'_>,
 ) -> Result<StripeOutcome, AllocError> {
@@ -289,6 +297,7 @@ fn outcome_of(
             let said = plan.findings.len();
             let plan = without_left(alloc, &repair, stripe, plan)?;
             let plan = without_repeated(alloc, plan, said)?;
+            let plan = without_refused(alloc, &repair, site, stripe, plan)?;
             with_unknown(stripe, plan)
         }
         Work::Scrub(code) => scrub_stripe(alloc, store, code, stripe),

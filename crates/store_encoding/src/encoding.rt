@@ -2,12 +2,13 @@
 mod begun;
 pub(crate) mod descriptions;
 mod discarding;
-mod failures;
+pub(crate) mod failures;
 pub(crate) mod fragments;
 mod lone;
 mod lost_descriptions;
 mod ordering;
 pub(crate) mod placing;
+mod readying;
 mod replacing;
 pub(crate) mod source;
 pub(crate) mod spool;
@@ -15,6 +16,7 @@ pub(crate) mod stripe_files;
 pub(crate) mod subfolders;
 pub(crate) mod sums;
 
+use crate::own_code::files_beyond;
 use crate::removing::has_any;
 use discarding::discard_made;
 use failures::after_discarding;
@@ -25,13 +27,12 @@ use placing::is_there_already;
 use replacing::{finish_replacing, replace};
 use source::{is_changed, no_name, regular, stripe_name};
 use std::fs::Metadata;
-use std::io::ErrorKind;
 use std::thread::Threads;
-use store_faults::{FileFault, fragment_name, source_fault};
-use store_files::{Target, is_staged, is_there};
+use store_faults::{FileFault, device, fragment_name, source_fault};
+use store_files::{Target, is_lost, is_staged, is_there, own_description};
 use store_folder::{
-    Described, Digest, KEPT, Links, SystemFolder, is_description_name, open_fragment, path_in,
-    read_description,
+    Described, Digest, KEPT, Links, SystemFolder, description_names, is_description_name,
+    open_fragment, path_in, read_description,
 };
 use store_progress::{Progress, refuse_over_limit};
 use store_repair::fragment_length;
@@ -59,7 +60,7 @@ pub fn encode_file<R: Threads + Sync>(
     let name = stripe_name(rt, source.name.unwrap_or(path))?;
     let before = regular(rt, path)?;
     refuse_unreadable(rt, path, before.len())?;
-    refuse_names(rt, target, path, name)?;
+    refuse_names(rt, target, source.name.unwrap_or(path), name)?;
     if target.makes_folders {
         make_folders(rt, target, name)?;
     }
@@ -78,12 +79,21 @@ pub fn encode_file<R: Threads + Sync>(
     match encode_beside(threads, rt, target, name, &given) {
         Err(fault) if target.replaces && matches!(&fault, FileFault::Refused { .. }) => {
             drop(fault);
-            let files = StripeFiles::of(rt.alloc(), target, name)?;
-            refuse_irregular(rt, target, &files)?;
+            refuse_irregular_old(rt, target, name)?;
             replace(threads, rt, target, name, &given)
         }
         done => done,
     }
+}
+
+/// Refuses to replace a file if something else has the name of one of its own, or of one that it is to get.
+fn refuse_irregular_old(
+    rt: &HostRuntime,
+    target: &Target<'_>,
+    name: &str,
+) -> Result<(), FileFault> {
+    refuse_irregular(rt, target, &StripeFiles::of(rt.alloc(), target, name)?)?;
+    refuse_irregular(rt, target, &files_beyond(rt, target, name, target.code)?)
 }
 
 /// Encodes a file beside what is there of it with the same bytes. Other bytes refuse it.
@@ -175,11 +185,11 @@ fn description_of(
     Ok(described.text(rt.alloc())?)
 }
 
-/// Refuses a file the names of whose fragments would be those of something else.
+/// Refuses a file the names of whose fragments would be those of something else, by the path or the name that was given.
 fn refuse_names(
     rt: &HostRuntime,
     target: &Target<'_>,
-    path: &str,
+    given: &str,
     name: &str,
 ) -> Result<(), FileFault> {
     let alloc = rt.alloc();
@@ -188,19 +198,37 @@ fn refuse_names(
         if fragment.ends_with(KEPT)
             || is_description_name(alloc, &target.pattern, target.code, fragment)?
         {
-            return Err(no_name(rt, path));
+            return Err(no_name(rt, given));
         }
     }
     if is_staged(name) || !target.has_names(alloc, name)? {
-        return Err(no_name(rt, path));
+        return Err(no_name(rt, given));
     }
     Ok(())
 }
 
 /// Whether there is a description of a stripe.
 fn is_described(rt: &HostRuntime, target: &Target<'_>, name: &str) -> Result<bool, FileFault> {
-    let descriptions = target.descriptions(rt.alloc(), name)?;
+    let descriptions = descriptions_of(rt, target, name)?;
     has_any(rt, target, descriptions.as_slice())
+}
+
+/// The names of the copies of a stripe's description, also of the one in a store that was made before, if that is one: another thing there
+/// is somebody else's, as the folder of a file `a.file` is beside a file `a`.
+fn descriptions_of(
+    rt: &HostRuntime,
+    target: &Target<'_>,
+    name: &str,
+) -> Result<Vec<String>, FileFault> {
+    let mut names = description_names(rt.alloc(), &target.pattern, target.code, name)?;
+    match own_description(rt, target, name) {
+        Ok(Some(own)) => {
+            names.push(own)?;
+            Ok(names)
+        }
+        Ok(None) => Ok(names),
+        Err(fault) => Err(fault),
+    }
 }
 
 /// What is to be said of a file whose digest is known.
@@ -240,7 +268,7 @@ fn refuse_descriptions(
     name: &str,
     described: Option<Described>,
 ) -> Result<(), FileFault> {
-    let descriptions = target.descriptions(rt.alloc(), name)?;
+    let descriptions = descriptions_of(rt, target, name)?;
     for description in &descriptions {
         refuse_description(rt, target, description.as_str(), described)?;
     }
@@ -260,7 +288,8 @@ fn refuse_description(
     }
     match read_description(rt, path.as_str(), target.links) {
         Ok(Some(there)) if described == Some(there) => Ok(()),
-        Err(error) if error.kind() == ErrorKind::OutOfMemory => Err(FileFault::OutOfMemory),
+        // What can't be read may be the same, and isn't replaced.
+        Err(error) if !is_lost(error.kind()) => Err(device(rt.alloc(), path.as_str(), error)),
         _ => Err(is_there_already(rt, description)),
     }
 }

@@ -7,6 +7,7 @@
 #![tactic(auto)]
 
 mod encoding;
+mod left;
 mod own_code;
 mod own_folders;
 mod refusing;
@@ -17,5 +18,6 @@ pub use encoding::spool::Spool;
 pub use encoding::subfolders::make_folder;
 pub use encoding::sums::{stored_sums, write_new_sums};
 pub use encoding::{SourceFile, encode_file};
+pub use left::has_left;
 pub use removing::remove_stored;
 pub use taking::{take_away, take_files};

@@ -1,40 +1,56 @@
 //! Folders of a store that are a stripe's own, since their names have the stripe's.
-use std::alloc::AllocError;
+use crate::encoding::failures::after_another;
+use lrc_code::Code;
 use std::fs;
-use std::io::ErrorKind;
-use store_faults::FileFault;
+use std::io::{self, ErrorKind};
+use store_faults::{FileFault, device};
 use store_files::{Target, is_there};
-use store_folder::refuse_linked_folders;
+use store_folder::{is_absent, refuse_linked_folders};
 use store_names::{folder_in, stripe_folders};
 
 /// Removes the folders that a stripe's fragments were in, as far as those of another stripe aren't there or below, and nothing is in them.
-/// The other is the name of any other stripe: folders that it would have too, as those of disks, aren't the stripe's own.
+/// The other is the name of any other stripe: folders that it would have too, as those of disks, aren't the stripe's own. Of those that
+/// can't be removed each is said but the last, which is given.
 pub(crate) fn remove_own_folders(
     rt: &HostRuntime,
     target: &Target<'_>,
+    code: Code,
     stripe: &str,
     other: &str,
-) -> Result<(), AllocError> {
+) -> Result<(), FileFault> {
     let alloc = rt.alloc();
-    let others = stripe_folders(alloc, &target.pattern, target.code, other)?;
-    let folders = stripe_folders(alloc, &target.pattern, target.code, stripe)?;
+    let others = stripe_folders(alloc, &target.pattern, code, other)?;
+    let folders = stripe_folders(alloc, &target.pattern, code, stripe)?;
+    let mut refused = None;
     for folder in &folders {
-        remove_levels(rt, target, folder.as_str(), others.as_slice())?;
+        if let Err(fault) = remove_levels(rt, target, folder.as_str(), others.as_slice()) {
+            refused = Some(after_another(rt, None, refused, fault));
+        }
     }
-    Ok(())
+    refused.map_or(Ok(()), Err)
 }
 
-/// Whether one of the folders is there that a stripe's fragments are to be in.
-pub(crate) fn has_folders(
+/// Whether there is a folder that a stripe has and another one hasn't.
+pub(crate) fn has_own_folders(
     rt: &HostRuntime,
     target: &Target<'_>,
+    code: Code,
     stripe: &str,
+    other: &str,
 ) -> Result<bool, FileFault> {
     let alloc = rt.alloc();
-    for folder in stripe_folders(alloc, &target.pattern, target.code, stripe)? {
-        let path = target.path(alloc, folder.as_str())?;
-        if is_there(rt, path.as_str())? {
-            return Ok(true);
+    let others = stripe_folders(alloc, &target.pattern, code, other)?;
+    for folder in stripe_folders(alloc, &target.pattern, code, stripe)? {
+        let mut inside = folder.as_str();
+        for _level in 0..target.pattern.depth() {
+            if inside.is_empty() || is_above(inside, others.as_slice()) {
+                break;
+            }
+            let path = target.path(alloc, inside)?;
+            if is_there(rt, path.as_str())? {
+                return Ok(true);
+            }
+            inside = folder_in(inside);
         }
     }
     Ok(false)
@@ -46,7 +62,7 @@ fn remove_levels(
     target: &Target<'_>,
     folder: &str,
     others: &[String],
-) -> Result<(), AllocError> {
+) -> Result<(), FileFault> {
     let mut inside = folder;
     for _level in 0..target.pattern.depth() {
         if inside.is_empty() || is_above(inside, others) {
@@ -69,14 +85,32 @@ pub(crate) fn is_above(folder: &str, others: &[String]) -> bool {
     others.iter().any(is_at_or_below)
 }
 
-/// Removes a folder of the store if nothing is in it.
-fn remove_empty(rt: &HostRuntime, target: &Target<'_>, inside: &str) -> Result<(), AllocError> {
-    match refuse_linked_folders(rt, target.folder, inside, target.links) {
-        Ok(()) => {}
-        Err(error) if error.kind() == ErrorKind::OutOfMemory => return Err(AllocError),
-        Err(_) => return Ok(()),
-    }
+/// Removes a folder of the store if nothing is in it. What isn't a folder stays.
+fn remove_empty(rt: &HostRuntime, target: &Target<'_>, inside: &str) -> Result<(), FileFault> {
     let path = target.path(rt.alloc(), inside)?;
-    let _ = fs::remove_dir(rt, path.as_str());
-    Ok(())
+    match remove_inside(rt, target, inside, path.as_str()) {
+        Ok(()) => Ok(()),
+        Err(error) if stays(error.kind()) => Ok(()),
+        Err(error) => Err(device(rt.alloc(), path.as_str(), error)),
+    }
+}
+
+/// Removes the empty folder of a name in the store, which is at this path.
+fn remove_inside(
+    rt: &HostRuntime,
+    target: &Target<'_>,
+    inside: &str,
+    path: &str,
+) -> io::Result<()> {
+    refuse_linked_folders(rt, target.folder, inside, target.links)?;
+    fs::remove_dir(rt, path)
+}
+
+/// Whether the kind of an error says that something is in a folder, or that none is there but maybe a link.
+fn stays(kind: ErrorKind) -> bool {
+    is_absent(kind)
+        || matches!(
+            kind,
+            ErrorKind::DirectoryNotEmpty | ErrorKind::AlreadyExists | ErrorKind::InvalidInput
+        )
 }

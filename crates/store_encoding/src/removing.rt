@@ -7,20 +7,19 @@ ghost use Rattle.store_encoding.specs.Digests.{KeepsDigests};
 ghost use Rattle.store_encoding.specs.Replaced.{IsTextOf};
 ghost use Rattle.store_encoding.specs.Taken.{GoesOf, IsTakenOut, KeepsRest};
 
+use crate::encoding::failures::after_another;
 use crate::encoding::stripe_files::StripeFiles;
 use crate::encoding::sums::{forget_digests, write_new_sums};
-use crate::own_code::code_of;
+use crate::own_code::{OwnStripe, files_of};
 use crate::own_folders::remove_own_folders;
 use crate::refusing::refused;
 use crate::taking::take_files;
 use folders::Folder;
 use std::alloc::{AllocError, Global};
 use std::io::ErrorKind;
-use store_faults::{FileFault, device, say};
-use store_files::{Target, is_there, no_stored, own_description, refuse_linked, staged_name};
-use store_folder::{
-    Digest, Sums, SystemFolder, description_names, is_absent, is_description_name, read_description,
-};
+use store_faults::{DEVICE, FileFault, device};
+use store_files::{Target, is_there, no_stored, refuse_linked, staged_name};
+use store_folder::{Digest, Sums, SystemFolder, is_absent, is_description_name, read_description};
 use store_repair::NameFault;
 
 /// Takes the file of a name out of a store, with what a run has left that was to replace it, and with the folders that it had alone. What
@@ -36,25 +35,28 @@ pub fn remove_stored(
         return Err(no_stored(alloc, name, target.folder)?);
     }
     let staged = staged_name(alloc, name)?;
+    let old = OwnStripe::of(rt, target, name)?;
+    let new = OwnStripe::of(rt, target, staged.as_str())?;
     let code = target.code;
-    target.code = code_of(rt, target, [name, staged.as_str()])?;
-    let removed = remove_named(rt, target, name, staged.as_str());
+    target.code = old.code;
+    let removed = remove_named(rt, target, &old, &new);
     target.code = code;
     removed
 }
 
-/// Takes the file of a name out of a store, and what was to replace it, by the target's code.
+/// Takes the file of a name out of a store, which has the target's code, and what was to replace it.
 fn remove_named(
     rt: &HostRuntime,
     target: &mut Target<'_>,
-    name: &str,
-    staged: &str,
+    old: &OwnStripe<'_>,
+    new: &OwnStripe<'_>,
 ) -> Result<(), FileFault> {
     let alloc = rt.alloc();
+    let name = old.name;
     if !target.has_names(alloc, name)? || has_description(rt, target, name)? {
         return Err(no_stored(alloc, name, target.folder)?);
     }
-    remove_files(rt, target, name, staged)
+    remove_files(rt, target, old, new)
 }
 
 /// Whether a description of another file has the name of one of a stripe's fragments, as `disk3/a.file` is of a file `a`.
@@ -87,25 +89,13 @@ fn is_description(rt: &HostRuntime, target: &Target<'_>, name: &str) -> Result<b
 fn remove_files(
     rt: &HostRuntime,
     target: &mut Target<'_>,
-    name: &str,
-    staged: &str,
+    old: &OwnStripe<'_>,
+    new: &OwnStripe<'_>,
 ) -> Result<(), FileFault> {
-    let old = files_of(rt, target, name)?;
-    match files_of(rt, target, staged) {
-        Ok(new) => remove_both(rt, target, name, staged, &old, &new),
+    let old_files = files_of(rt, target, old)?;
+    match files_of(rt, target, new) {
+        Ok(new_files) => remove_both(rt, target, old, new, &old_files, &new_files),
         Err(fault) => Err(fault),
-    }
-}
-
-/// The names of a stripe's files.
-fn files_of(rt: &HostRuntime, target: &Target<'_>, stripe: &str) -> Result<StripeFiles, FileFault> {
-    let descriptions = names_of_descriptions(rt, target, stripe)?;
-    match target.names(rt.alloc(), stripe) {
-        Ok(fragments) => Ok(StripeFiles {
-            fragments,
-            descriptions,
-        }),
-        Err(AllocError) => Err(FileFault::OutOfMemory),
     }
 }
 
@@ -145,21 +135,20 @@ impl<'n> Listed<'n> {
         Ok(())
     }
 
-    /// Whether a description of the stripe can be read.
+    /// Whether a description of the stripe is there, or may be, since what has its name can't be looked at or read.
     fn is_described(&self, rt: &HostRuntime, target: &Target<'_>) -> bool {
         for name in &self.files.descriptions {
             let said = is_description(rt, target, name.as_str());
-            if matches!(&said, Ok(true)) {
+            if !matches!(&said, Ok(false)) {
                 return true;
             }
         }
         false
     }
 
-    /// Whether something has the name of one of the stripe's descriptions, or may have it, since that can't be looked at.
-    fn may_be_described(&self, rt: &HostRuntime, target: &Target<'_>) -> bool {
-        let has_some = has_any(rt, target, self.files.descriptions.as_slice());
-        !matches!(&has_some, Ok(false))
+    /// Whether something has the name of one of the stripe's descriptions.
+    fn has_description(&self, rt: &HostRuntime, target: &Target<'_>) -> Result<bool, FileFault> {
+        has_any(rt, target, self.files.descriptions.as_slice())
     }
 
     /// Adds the digests again if something still describes the stripe. By those of one that nothing describes a repair would make it again.
@@ -173,35 +162,66 @@ impl<'n> Listed<'n> {
 
 /// Takes the files of two stripes out of a store, their digests, and the folders that they had alone. These go too where fragments stay
 /// that couldn't be taken out, as far as nothing is in them: once those are gone, the store has no file of the name that could be removed.
+/// Those that a run left which was killed go where there is nothing else of the file.
 fn remove_both(
     rt: &HostRuntime,
     target: &mut Target<'_>,
-    name: &str,
-    staged: &str,
-    old: &StripeFiles,
-    new: &StripeFiles,
+    old: &OwnStripe<'_>,
+    new: &OwnStripe<'_>,
+    old_files: &StripeFiles,
+    new_files: &StripeFiles,
 ) -> Result<(), FileFault> {
-    refuse_absent(rt, target, name, old, new)?;
-    let old = Listed::of(rt.alloc(), &target.sums, old)?;
-    let new = Listed::of(rt.alloc(), &target.sums, new)?;
-    let taken = take_listed(rt, target, &old, &new);
-    let are_gone = taken.is_ok()
-        || !(old.may_be_described(rt, target) || new.may_be_described(rt, target));
-    if are_gone {
-        remove_own_folders(rt, target, staged, name)?;
-        remove_own_folders(rt, target, name, staged)?;
+    if !is_any_there(rt, target, old_files, new_files)? {
+        let fault = no_stored(rt.alloc(), old.name, target.folder)?;
+        return Err(match remove_folders(rt, target, old, new) {
+            Ok(()) => fault,
+            Err(other) => after_another(rt, None, Some(fault), other),
+        });
     }
-    taken
+    let old_listed = Listed::of(rt.alloc(), &target.sums, old_files)?;
+    let new_listed = Listed::of(rt.alloc(), &target.sums, new_files)?;
+    let Err(fault) = take_listed(rt, target, &old_listed, &new_listed) else {
+        return remove_folders(rt, target, old, new);
+    };
+    let has_some = match old_listed.has_description(rt, target) {
+        Ok(false) => new_listed.has_description(rt, target),
+        known => known,
+    };
+    let removed = match has_some {
+        Ok(true) => return Err(fault),
+        Ok(false) => remove_folders(rt, target, old, new),
+        // What can't be looked at was said if it couldn't be taken out either.
+        Err(_) if fault.status() == DEVICE => return Err(fault),
+        Err(other) => Err(other),
+    };
+    match removed {
+        Ok(()) => Err(fault),
+        Err(other) => Err(after_another(rt, None, Some(fault), other)),
+    }
 }
 
-/// Refuses the file of a name if a folder on the way to one of its files is a link, unless links are followed, or if none of them is there.
-fn refuse_absent(
+/// Removes the folders that two stripes had alone.
+fn remove_folders(
     rt: &HostRuntime,
     target: &Target<'_>,
-    name: &str,
+    old: &OwnStripe<'_>,
+    new: &OwnStripe<'_>,
+) -> Result<(), FileFault> {
+    let removed = remove_own_folders(rt, target, new.folders, new.name, old.name);
+    match remove_own_folders(rt, target, old.folders, old.name, new.name) {
+        Ok(()) => removed,
+        Err(fault) => Err(after_another(rt, None, removed.err(), fault)),
+    }
+}
+
+/// Whether one of the files of two stripes is there. They are refused if a folder on the way to one of them is a link, unless links are
+/// followed.
+fn is_any_there(
+    rt: &HostRuntime,
+    target: &Target<'_>,
     old: &StripeFiles,
     new: &StripeFiles,
-) -> Result<(), FileFault> {
+) -> Result<bool, FileFault> {
     let lists = [
         old.descriptions.as_slice(),
         old.fragments.as_slice(),
@@ -213,10 +233,10 @@ fn refuse_absent(
     }
     for names in lists {
         if has_any(rt, target, names)? {
-            return Ok(());
+            return Ok(true);
         }
     }
-    Err(no_stored(rt.alloc(), name, target.folder)?)
+    Ok(false)
 }
 
 /// Writes the digests without those of two stripes' files, and takes these out. Where something still describes a stripe then, its digests
@@ -231,12 +251,10 @@ fn take_listed(
     write_without(rt, files, target, old, new)?;
     match take_both(rt, files, target, old.files, new.files) {
         Ok(()) => Ok(()),
-        Err(fault) => {
-            if let Err(other) = write_again(rt, files, target, old, new) {
-                let _ = say(rt, format!(in rt.alloc(); "rebuild-store: {other}"));
-            }
-            Err(fault)
-        }
+        Err(fault) => match write_again(rt, files, target, old, new) {
+            Ok(()) => Err(fault),
+            Err(other) => Err(after_another(rt, None, Some(fault), other)),
+        },
     }
 }
 
@@ -259,8 +277,10 @@ fn write_without(
             old.add_again(rt.alloc(), target)?;
             new.add_again(rt.alloc(), target)?;
             // Where only their name couldn't be written to the disk, they are the new ones.
-            let _ = write_new_sums(rt, files, target);
-            Err(fault)
+            match write_new_sums(rt, files, target) {
+                Ok(()) => Err(fault),
+                Err(other) => Err(after_another(rt, None, Some(fault), other)),
+            }
         }
     }
 }
@@ -282,7 +302,7 @@ fn write_again(
 
 /// Takes a stripe's files out of a store, and then those that were to replace them: while the new file can be read it is what is read, and
 /// the old one would be again without it. So what was to replace the stripe stays unless all of the old descriptions are gone. Fragments
-/// of the old file that stay keep nothing else, since nothing describes them any more. Gives the first fault.
+/// of the old file that stay keep nothing else, since nothing describes them any more.
 fn take_both(
     rt: &HostRuntime,
     files: &mut SystemFolder<'_>,
@@ -293,22 +313,14 @@ fn take_both(
     let (descriptions, fragments) = (old.descriptions.as_slice(), old.fragments.as_slice());
     let taken = take_out(rt, files, target, descriptions, fragments)?;
     let (descriptions, fragments) = (new.descriptions.as_slice(), new.fragments.as_slice());
-    let replaced = take_out(rt, files, target, descriptions, fragments);
-    taken?;
-    replaced?
-}
-
-/// The names of a stripe's descriptions that go with it.
-fn names_of_descriptions(
-    rt: &HostRuntime,
-    target: &Target<'_>,
-    stripe: &str,
-) -> Result<Vec<String>, FileFault> {
-    let mut names = description_names(rt.alloc(), &target.pattern, target.code, stripe)?;
-    if let Some(own) = own_description(rt, target, stripe)? {
-        names.push(own)?;
+    let replaced = match take_out(rt, files, target, descriptions, fragments) {
+        Ok(replaced) => replaced,
+        Err(fault) => Err(fault),
+    };
+    match replaced {
+        Ok(()) => taken,
+        Err(fault) => Err(after_another(rt, None, taken.err(), fault)),
     }
-    Ok(names)
 }
 
 /// Writes the digests that are left, and takes the files of some descriptions and fragments away. Whenever that ends, each of them has what

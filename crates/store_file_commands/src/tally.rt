@@ -1,5 +1,5 @@
 //! What became of the files that a command was given.
-ghost use Rattle.std.specs.Prelude.{◌≡◌, ◌-◌, ◌≤◌, IfOk, IsOk, OnErr, Ok, if◌then◌else◌};
+ghost use Rattle.std.specs.Prelude.{◌≡◌, ◌-◌, ◌≤◌, IfOk, IsOk, OnErr, Ok, if◌then◌else◌, max};
 
 use std::alloc::AllocError;
 use std::io;
@@ -23,6 +23,14 @@ impl Tally {
             done: 0,
             status: if is_clean { DONE } else { DEVICE },
         }
+    }
+
+    /// Notes that something failed which was said. It asks for a status.
+    pub(crate) fn fail(&mut self)
+        ensures status { self.new.status ≡ max self.old.status 3 }
+        ensures done { self.new.done ≡ self.old.done }
+    {
+        self.status = self.status.max(DEVICE);
     }
 
     /// Notes what became of a file, and says why its work isn't done, in place of the line that shows how far the command is. A want of

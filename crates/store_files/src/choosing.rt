@@ -1,89 +1,86 @@
 //! Which fragments a file is read from, where some are damaged.
 ghost use Rattle.std.specs.Prelude.{◌≡◌, vec_len};
 
-use crate::fragments::{Fragments, gives_file, parts_of};
+use crate::fragments::{Fragments, Given, given_by};
+use crate::own_sums::own_sums;
 use crate::stored_file::{Sought, StoredFile};
+use crate::tries::Tries;
 use lrc_code::{Place, PlaceSet};
 use std::io::ErrorKind;
 use store_faults::FileFault;
 use store_folder::{
-    Described, SUMS_NAME, SumsFault, description_names, digests_of, path_in, read_description,
-    read_sums,
+    Described, SUMS_NAME, description_names, digests_of, path_in, read_description,
 };
 use store_names::folder_in;
 use store_repair::without;
 
-/// A set of fragments that gives the file: all, or some of them.
+/// A set of fragments that gives the file: all, or some of them. What the system refuses to read is left out, and said.
 pub fn set_that_fits(
     rt: &HostRuntime,
     sought: &Sought<'_, '_>,
     fragments: &Fragments,
+    tries: &mut Tries,
 ) -> Result<Option<PlaceSet>, FileFault>
     requires { vec_len fragments.now.opened ≡ 16 }
 {
     let all = fragments.set;
-    if gives_file(rt, sought, fragments, all)? {
-        return Ok(Some(all));
+    match given_anew(rt, sought, fragments, all, tries)? {
+        Some(set) => Ok(Some(set)),
+        None => some_that_fit(rt, sought, fragments, tries),
     }
-    some_that_fit(rt, sought, fragments)
 }
 
 /// A set of fragments that gives the file where all don't: those that have the digests of the store's sums, those beside which the file's
 /// description is, or no other one, or all but one or two.
-pub fn some_that_fit(
+fn some_that_fit(
     rt: &HostRuntime,
     sought: &Sought<'_, '_>,
     fragments: &Fragments,
+    tries: &mut Tries,
 ) -> Result<Option<PlaceSet>, FileFault>
     requires { vec_len fragments.now.opened ≡ 16 }
 {
     let all = fragments.set;
     let name = sought.file.name;
-    let mut tried = Vec::new(rt.alloc());
-    tried.push(read_of(sought, all))?;
-    let listed = with_digests(rt, sought, fragments)?;
-    if gives_anew(rt, sought, fragments, listed, &mut tried)? {
+    let listed = with_digests(rt, sought, fragments, tries)?;
+    if let Some(set) = given_anew(rt, sought, fragments, listed, tries)? {
         sought.file.say(
             rt,
             format!(in rt.alloc();
                 "rebuild-store: {name}: read without the fragments that differ from {SUMS_NAME}"
             ),
         );
-        return Ok(Some(listed));
+        return Ok(Some(set));
     }
-    match with_description(rt, sought, fragments, &mut tried)? {
+    match with_description(rt, sought, fragments, tries)? {
         Some(set) => Ok(Some(set)),
-        None => without_some(rt, sought, fragments, all, &mut tried),
+        None => without_some(rt, sought, fragments, all, tries),
     }
 }
 
-/// Whether some fragments give the file. Those that are read as others were that don't give it aren't read once more.
-fn gives_anew(
+/// Those of some fragments that can be read, if they give the file. Such as are read as others were that don't give it aren't read again.
+fn given_anew(
     rt: &HostRuntime,
     sought: &Sought<'_, '_>,
     fragments: &Fragments,
-    set: PlaceSet,
-    tried: &mut Vec<PlaceSet>,
-) -> Result<bool, FileFault>
+    some: PlaceSet,
+    tries: &mut Tries,
+) -> Result<Option<PlaceSet>, FileFault>
     requires { vec_len fragments.now.opened ≡ 16 }
 {
-    let read = read_of(sought, set);
-    if tried.contains(&read) {
-        return Ok(false);
-    }
-    tried.push(read)?;
-    gives_file(rt, sought, fragments, set)
-}
-
-/// The fragments that a file is read from where some are to give it: its parts alone if all of these are among them, else all.
-fn read_of(sought: &Sought<'_, '_>, set: PlaceSet) -> PlaceSet {
-    let parts = parts_of(sought);
-    for place in &Place::ALL {
-        if parts.has(*place) && !set.has(*place) {
-            return set;
+    // In each turn but the last a fragment more is left out.
+    for _turn in 0..=Place::ALL.len() {
+        let set = tries.readable(sought, some);
+        if tries.note(sought, set)? {
+            return Ok(None);
+        }
+        match given_by(rt, sought, fragments, set)? {
+            Given::File => return Ok(Some(set)),
+            Given::Other => return Ok(None),
+            Given::Unread { index, error } => tries.leave_out(rt, sought, index, error)?,
         }
     }
-    parts
+    Ok(None)
 }
 
 /// The fragments beside which the file's description is, or no other one, if they give the file, also without one or two. A disk that was
@@ -92,7 +89,7 @@ fn with_description(
     rt: &HostRuntime,
     sought: &Sought<'_, '_>,
     fragments: &Fragments,
-    tried: &mut Vec<PlaceSet>,
+    tries: &mut Tries,
 ) -> Result<Option<PlaceSet>, FileFault>
     requires { vec_len fragments.now.opened ≡ 16 }
 {
@@ -101,15 +98,13 @@ fn with_description(
     if unopposed.len() == fragments.set.len() {
         return Ok(None);
     }
-    if gives_anew(rt, sought, fragments, described, tried)? {
-        say_described(rt, sought);
-        return Ok(Some(described));
+    for some in [described, unopposed] {
+        if let Some(set) = given_anew(rt, sought, fragments, some, tries)? {
+            say_described(rt, sought);
+            return Ok(Some(set));
+        }
     }
-    if gives_anew(rt, sought, fragments, unopposed, tried)? {
-        say_described(rt, sought);
-        return Ok(Some(unopposed));
-    }
-    let set = without_some(rt, sought, fragments, unopposed, tried)?;
+    let set = without_some(rt, sought, fragments, unopposed, tries)?;
     if set.is_some() {
         say_described(rt, sought);
     }
@@ -182,13 +177,13 @@ fn without_some(
     sought: &Sought<'_, '_>,
     fragments: &Fragments,
     some: PlaceSet,
-    tried: &mut Vec<PlaceSet>,
+    tries: &mut Tries,
 ) -> Result<Option<PlaceSet>, FileFault>
     requires { vec_len fragments.now.opened ≡ 16 }
 {
-    match without_one(rt, sought, fragments, some, tried)? {
+    match without_one(rt, sought, fragments, some, tries)? {
         Some(set) => Ok(Some(set)),
-        None => without_two(rt, sought, fragments, some, tried),
+        None => without_two(rt, sought, fragments, some, tries),
     }
 }
 
@@ -198,14 +193,17 @@ fn without_one(
     sought: &Sought<'_, '_>,
     fragments: &Fragments,
     some: PlaceSet,
-    tried: &mut Vec<PlaceSet>,
+    tries: &mut Tries,
 ) -> Result<Option<PlaceSet>, FileFault>
     requires { vec_len fragments.now.opened ≡ 16 }
 {
     let name = sought.file.name;
     for first in &Place::ALL {
-        let set = without(sought.described.code, some, *first);
-        if some.has(*first) && gives_anew(rt, sought, fragments, set, tried)? {
+        if !some.has(*first) {
+            continue;
+        }
+        let rest = without(sought.described.code, some, *first);
+        if let Some(set) = given_anew(rt, sought, fragments, rest, tries)? {
             let first = first.name();
             sought.file.say(
                 rt,
@@ -225,7 +223,7 @@ fn without_two(
     sought: &Sought<'_, '_>,
     fragments: &Fragments,
     some: PlaceSet,
-    tried: &mut Vec<PlaceSet>,
+    tries: &mut Tries,
 ) -> Result<Option<PlaceSet>, FileFault>
     requires { vec_len fragments.now.opened ≡ 16 }
 {
@@ -233,12 +231,11 @@ fn without_two(
     let name = sought.file.name;
     for first in &Place::ALL {
         for second in &Place::ALL {
-            let set = without(code, without(code, some, *first), *second);
-            if some.has(*first)
-                && some.has(*second)
-                && first.index() < second.index()
-                && gives_anew(rt, sought, fragments, set, tried)?
-            {
+            if !some.has(*first) || !some.has(*second) || first.index() >= second.index() {
+                continue;
+            }
+            let rest = without(code, without(code, some, *first), *second);
+            if let Some(set) = given_anew(rt, sought, fragments, rest, tries)? {
                 let first = first.name();
                 let second = second.name();
                 sought.file.say(
@@ -259,33 +256,33 @@ fn with_digests(
     rt: &HostRuntime,
     sought: &Sought<'_, '_>,
     fragments: &Fragments,
+    tries: &mut Tries,
 ) -> Result<PlaceSet, FileFault> {
     let alloc = rt.alloc();
-    let path = path_in(alloc, sought.file.folder, SUMS_NAME)?;
-    let sums = match read_sums(rt, path.as_str(), sought.file.links) {
-        Ok(sums) => sums,
-        Err(SumsFault::OutOfMemory) => return Err(FileFault::OutOfMemory),
-        Err(_) => return Ok(fragments.set),
+    let Some(sums) = own_sums(rt, &sought.file)? else {
+        return Ok(fragments.set);
     };
     let mut opened = Vec::with_capacity(alloc, fragments.opened.len())?;
     for fragment in &fragments.opened {
         opened.push(fragment.as_ref())?;
     }
-    let digests = digests_of(alloc, opened.as_slice(), sought.length)?;
     let mut set = PlaceSet::empty();
-    for (place, digest) in Place::ALL.iter().zip(digests.iter()) {
-        let name = sought.name_of(alloc, *place)?;
-        let fits = match (digest, sums.digest_of(name.as_str())) {
-            (Some(Ok(digest)), Some(listed)) => *listed == *digest,
-            (Some(Ok(_)), None) => true,
-            (Some(Err(error)), _) if error.kind() == ErrorKind::OutOfMemory => {
-                return Err(FileFault::OutOfMemory);
+    let mut index = 0usize;
+    for digest in digests_of(alloc, opened.as_slice(), sought.length)? {
+        match digest {
+            Some(Ok(digest)) => {
+                if let Some(place) = Place::from_index(index) {
+                    let name = sought.name_of(alloc, place)?;
+                    let listed = sums.digest_of(name.as_str());
+                    if listed.is_none() || listed == Some(&digest) {
+                        set = set.with(place);
+                    }
+                }
             }
-            _ => false,
-        };
-        if fits {
-            set = set.with(*place);
+            Some(Err(error)) => tries.leave_out(rt, sought, index, error)?,
+            None => {}
         }
+        index = index.saturating_add(1);
     }
     Ok(set)
 }

@@ -1,4 +1,5 @@
 //! What the copies of a file's description say.
+use crate::own_sums::own_sums;
 use crate::staging::{has_fragment, has_some, no_stored};
 use crate::stored_file::StoredFile;
 use crate::target::Target;
@@ -9,8 +10,8 @@ use std::io::{self, ErrorKind};
 use std::{fs, mem};
 use store_faults::{FileFault, device};
 use store_folder::{
-    Described, Links, SUMS_NAME, SumsFault, description_names, first_description_name, is_absent,
-    path_in, read_description, read_sums, refuse_linked_folders,
+    Described, Links, description_names, first_description_name, is_absent, path_in,
+    read_description, refuse_linked_folders,
 };
 use store_repair::lost_places;
 
@@ -20,6 +21,43 @@ enum Unread {
     /// It is said of each but the last why it can't be.
     Said,
     Unsaid,
+}
+
+/// Why a copy of a description says nothing.
+#[derive(Clone, Copy, PartialEq, Eq)]
+pub enum Cause {
+    /// It is a file of another form.
+    Odd,
+    /// It is no regular file, or behind a link.
+    NoFile,
+    /// The system refuses to read it, so that it may be a description.
+    Unread,
+}
+
+impl Cause {
+    /// Whether it is said in the end, and another cause before it.
+    fn outranks(self, other: Cause) -> bool {
+        match self {
+            Cause::Odd => false,
+            Cause::NoFile => other == Cause::Odd,
+            Cause::Unread => other != Cause::Unread,
+        }
+    }
+}
+
+/// That a copy of a description says nothing, though something is there.
+#[derive(Drop)]
+pub struct Refusal {
+    pub fault: FileFault,
+    pub cause: Cause,
+}
+
+/// What a copy of a description says.
+#[derive(Drop)]
+enum Copy {
+    Says(Described),
+    Absent,
+    Refused(Refusal),
 }
 
 /// What the copies of a file's description say, each once: first what the copies say that have the digest which the store's sums name for
@@ -43,7 +81,7 @@ pub fn descriptions_of(
     let mut refused = None;
     let copies = names.as_slice();
     let ordered = match add_copies(rt, file, copies, Unread::Said, &mut said, &mut refused) {
-        Ok(()) => ordered(rt, file, said.as_slice(), refused)?,
+        Ok(_) => ordered(rt, file, said.as_slice(), refused)?,
         Err(fault) => return Err(fault),
     };
     listed_first(rt, file, copies, ordered)
@@ -60,11 +98,8 @@ fn listed_first(
         return Ok(said);
     }
     let alloc = rt.alloc();
-    let path = path_in(alloc, file.folder, SUMS_NAME)?;
-    let sums = match read_sums(rt, path.as_str(), file.links) {
-        Ok(sums) => sums,
-        Err(SumsFault::OutOfMemory) => return Err(FileFault::OutOfMemory),
-        Err(_) => return Ok(said),
+    let Some(sums) = own_sums(rt, file)? else {
+        return Ok(said);
     };
     let mut order = Vec::with_capacity(alloc, said.len())?;
     for is_first in [true, false] {
@@ -88,57 +123,77 @@ pub fn descriptions_for_sure(
     rt: &HostRuntime,
     file: &StoredFile<'_, '_>,
 ) -> Result<Vec<Described>, FileFault> {
+    let Copies { said, refused, .. } = copies_of(rt, file)?;
+    match refused {
+        Some(Refusal { fault, .. }) if said.is_empty() => Err(fault),
+        _ => Ok(said),
+    }
+}
+
+/// What copies of a description say, each once, first what most say; and why one says nothing that is there: of several the gravest cause.
+#[derive(Drop)]
+pub struct Copies {
+    pub said: Vec<Described>,
+    pub refused: Option<Refusal>,
+    /// Whether the one that is made first isn't there, so that a killed run has made none.
+    pub is_first_absent: bool,
+}
+
+/// What the copies of a file's description say that have to be there.
+pub fn copies_of(rt: &HostRuntime, file: &StoredFile<'_, '_>) -> Result<Copies, FileFault> {
     let alloc = rt.alloc();
     let names = description_names(alloc, &file.pattern, Code::Wide, file.name)?;
     let mut said = Vec::new(alloc);
     let mut refused = None;
     let copies = names.as_slice();
     match add_copies(rt, file, copies, Unread::Unsaid, &mut said, &mut refused) {
-        Ok(()) => for_sure(alloc, said.as_slice(), refused),
+        Ok(is_first_absent) => Ok(Copies {
+            said: in_order(alloc, said.as_slice())?,
+            refused,
+            is_first_absent,
+        }),
         Err(fault) => Err(fault),
     }
 }
 
-/// What copies say, first what most say; or why none that is there says anything.
-fn for_sure(
-    alloc: Global,
-    said: &[Described],
-    refused: Option<FileFault>,
-) -> Result<Vec<Described>, FileFault> {
-    if said.is_empty() {
-        return match refused {
-            Some(fault) => Err(fault),
-            None => Ok(Vec::new(alloc)),
-        };
-    }
-    drop(refused);
-    in_order(alloc, said)
-}
-
-/// Adds what copies say, and why the last of those can't be read that can't.
+/// Adds what copies say, and why one of those can't be read that can't. Says whether the first isn't there.
 fn add_copies(
     rt: &HostRuntime,
     file: &StoredFile<'_, '_>,
     copies: &[String],
     unread: Unread,
     said: &mut Vec<Described>,
-    refused: &mut Option<FileFault>,
-) -> Result<(), FileFault> {
+    refused: &mut Option<Refusal>,
+) -> Result<bool, FileFault> {
+    let mut is_first_absent = false;
+    let mut is_first = true;
     for copy in copies {
-        match description_at(rt, file, copy.as_str()) {
-            Ok(Some(described)) => said.push(described)?,
-            Ok(None) => {}
-            Err(fault) if matches!(&fault, FileFault::OutOfMemory) => return Err(fault),
-            Err(fault) => {
-                let before = mem::replace(refused, Some(fault));
+        match description_at(rt, file, copy.as_str())? {
+            Copy::Says(described) => said.push(described)?,
+            Copy::Absent => is_first_absent = is_first_absent || is_first,
+            Copy::Refused(refusal) => {
+                let other = keep_gravest(refused, refusal);
                 match unread {
-                    Unread::Said => say_fault(rt, file, before),
-                    Unread::Unsaid => drop(before),
+                    Unread::Said => say_refusal(rt, file, other),
+                    Unread::Unsaid => drop(other),
                 }
             }
         }
+        is_first = false;
     }
-    Ok(())
+    Ok(is_first_absent)
+}
+
+/// Keeps the graver one of two refusals, or the later one, and gives the other.
+fn keep_gravest(refused: &mut Option<Refusal>, refusal: Refusal) -> Option<Refusal> {
+    let is_graver = match &*refused {
+        Some(before) => before.cause.outranks(refusal.cause),
+        None => false,
+    };
+    if is_graver {
+        return Some(refusal);
+    }
+    mem::replace(refused, Some(refusal))
 }
 
 /// What copies say, first what most say; or why none says anything. Else it is said why the last that can't be read can't.
@@ -146,20 +201,27 @@ fn ordered(
     rt: &HostRuntime,
     file: &StoredFile<'_, '_>,
     said: &[Described],
-    refused: Option<FileFault>,
+    refused: Option<Refusal>,
 ) -> Result<Vec<Described>, FileFault> {
     if said.is_empty() {
         return match refused {
             // The caller says it.
-            Some(fault) => Err(fault),
+            Some(Refusal { fault, .. }) => Err(fault),
             None => Err(undescribed(rt, file)?),
         };
     }
-    say_fault(rt, file, refused);
+    say_refusal(rt, file, refused);
     in_order(rt.alloc(), said)
 }
 
-/// Says what is wrong with a copy, if anything is.
+/// Says why a copy says nothing, if one doesn't.
+fn say_refusal(rt: &HostRuntime, file: &StoredFile<'_, '_>, refusal: Option<Refusal>) {
+    if let Some(Refusal { fault, .. }) = refusal {
+        say_fault(rt, file, Some(fault));
+    }
+}
+
+/// Says what can't be read, if anything can't.
 fn say_fault(rt: &HostRuntime, file: &StoredFile<'_, '_>, fault: Option<FileFault>) {
     if let Some(fault) = fault {
         file.say(rt, format!(in rt.alloc(); "rebuild-store: {fault}"));
@@ -186,32 +248,11 @@ pub fn first_described(
     file: &StoredFile<'_, '_>,
 ) -> Result<Option<Described>, FileFault> {
     for copy in description_names(rt.alloc(), &file.pattern, Code::Wide, file.name)? {
-        match description_at(rt, file, copy.as_str()) {
-            Ok(Some(described)) => return Ok(Some(described)),
-            Err(fault) if matches!(&fault, FileFault::OutOfMemory) => return Err(fault),
-            _ => {}
+        if let Copy::Says(described) = description_at(rt, file, copy.as_str())? {
+            return Ok(Some(described));
         }
     }
     Ok(None)
-}
-
-/// What is believed of the copies of a file's description that can be read: the first of `descriptions_of`, of those that have to be there.
-pub fn believed_description(
-    rt: &HostRuntime,
-    file: &StoredFile<'_, '_>,
-) -> Result<Option<Described>, FileFault> {
-    let alloc = rt.alloc();
-    let names = description_names(alloc, &file.pattern, Code::Wide, file.name)?;
-    let mut said = Vec::new(alloc);
-    let mut refused = None;
-    let copies = names.as_slice();
-    match add_copies(rt, file, copies, Unread::Unsaid, &mut said, &mut refused) {
-        Ok(()) => drop(refused),
-        Err(fault) => return Err(fault),
-    }
-    let order = in_order(alloc, said.as_slice())?;
-    let order = listed_first(rt, file, copies, order)?;
-    Ok(order.first().copied())
 }
 
 /// Whether so many fragments of a stripe are there that they give the others. A disk that was away when the stripe replaced another one has
@@ -282,22 +323,42 @@ fn in_order(alloc: Global, said: &[Described]) -> Result<Vec<Described>, FileFau
     Ok(order)
 }
 
-/// The description in a copy; none where there is none.
+/// What a copy says.
 fn description_at(
     rt: &HostRuntime,
     file: &StoredFile<'_, '_>,
     copy: &str,
-) -> Result<Option<Described>, FileFault> {
+) -> Result<Copy, FileFault> {
     let alloc = rt.alloc();
     let path = path_in(alloc, file.folder, copy)?;
-    match description_below(rt, file, copy, path.as_str()) {
-        Ok(Some(described)) => Ok(Some(described)),
-        Ok(None) => Err(FileFault::Refused {
-            what: format!(in alloc; "{path}: isn't a line with a length, a digest and a code")?,
-        }),
-        Err(error) if is_absent(error.kind()) => Ok(None),
-        Err(error) => Err(device(alloc, path.as_str(), error)),
+    let error = match description_below(rt, file, copy, path.as_str()) {
+        Ok(Some(described)) => return Ok(Copy::Says(described)),
+        Ok(None) => {
+            let what = format!(in alloc;
+                "{path}: isn't a line with a length, a digest and a code"
+            )?;
+            return Ok(refused_copy(FileFault::Refused { what }, Cause::Odd));
+        }
+        Err(error) => error,
+    };
+    let kind = error.kind();
+    if kind == ErrorKind::OutOfMemory {
+        return Err(FileFault::OutOfMemory);
     }
+    if is_absent(kind) {
+        return Ok(Copy::Absent);
+    }
+    let cause = if kind == ErrorKind::InvalidInput {
+        Cause::NoFile
+    } else {
+        Cause::Unread
+    };
+    Ok(refused_copy(device(alloc, path.as_str(), error), cause))
+}
+
+/// A copy that says nothing.
+fn refused_copy(fault: FileFault, cause: Cause) -> Copy {
+    Copy::Refused(Refusal { fault, cause })
 }
 
 /// The description in the copy of a name in the store.

@@ -1,7 +1,10 @@
 //! Whether the fragments of a stripe give the file that its description says.
+ghost use Rattle.std.specs.Prelude.{◌≡◌, vec_len};
+
 use crate::choosing::set_that_fits;
-use crate::fragments::{Missing, open_fragments, unread_of};
+use crate::fragments::{Fragments, Missing, open_fragments};
 use crate::stored_file::{Sought, StoredFile};
+use crate::tries::{Tries, unread_of};
 use store_faults::FileFault;
 use store_folder::Described;
 
@@ -17,14 +20,28 @@ pub fn fitting_description(
     for described in said {
         let sought = Sought::new(file, *described);
         let fragments = open_fragments(rt, &sought, Missing::UnreadSaid)?;
-        // A file without bytes has fragments without any: else it would fit whatever is there.
-        let has_some = fragments.set.len() > 0;
-        if has_some && set_that_fits(rt, &sought, &fragments)?.is_some() {
+        let mut tries = Tries::new(rt.alloc());
+        if fits(rt, &sought, &fragments, &mut tries)? {
             return Ok(Some(*described));
         }
         if unread.is_none() {
-            unread = unread_of(rt, &sought, &fragments)?;
+            unread = unread_of(rt, &sought, fragments, tries)?;
+        } else {
+            drop(fragments);
+            drop(tries);
         }
     }
     unread.map_or(Ok(None), Err)
+}
+
+/// Whether some of the fragments give the file. One without bytes has fragments without any: else it would fit whatever is there.
+fn fits(
+    rt: &HostRuntime,
+    sought: &Sought<'_, '_>,
+    fragments: &Fragments,
+    tries: &mut Tries,
+) -> Result<bool, FileFault>
+    requires { vec_len fragments.now.opened ≡ 16 }
+{
+    Ok(fragments.set.len() > 0 && set_that_fits(rt, sought, fragments, tries)?.is_some())
 }

@@ -13,13 +13,33 @@ use store_folder::{
     refuse_linked_folders,
 };
 use store_progress::Counted;
-use store_repair::{Survivors, fragment_length, lost_places, read_file};
+use store_repair::{MendFault, Survivors, fragment_length, lost_places, read_file};
 
 /// The fragments of a stripe that are there, by the places' indexes.
 #[derive(Drop)]
 pub struct Fragments {
     pub set: PlaceSet,
     pub opened: Vec<Option<FileFragment<SystemOpen>>>,
+    /// The first that the system refused to open, and may be there.
+    pub refused: Option<Refused>,
+}
+
+/// A fragment that the system refused to open or to read.
+#[derive(Drop)]
+pub struct Refused {
+    pub place: Place,
+    pub error: io::Error,
+}
+
+/// What some fragments give.
+#[derive(Drop)]
+pub(crate) enum Given {
+    /// The file that is described.
+    File,
+    /// Another one, or none.
+    Other,
+    /// The fragment at the place of this index can't be read.
+    Unread { index: usize, error: io::Error },
 }
 
 /// Of which fragments that can't be opened it is said why.
@@ -54,11 +74,12 @@ pub fn open_fragments(
     let alloc = rt.alloc();
     let mut set = PlaceSet::empty();
     let mut opened = Vec::with_capacity(alloc, 16)?;
+    let mut refused = None;
     'places: while opened.len() < 16 {
         let mut fragment = None;
         if let Some(place) = Place::from_index(opened.len()) {
             if sought.described.code.has(place) {
-                fragment = open_at(rt, sought, place, missing)?;
+                fragment = open_at(rt, sought, place, missing, &mut refused)?;
                 if fragment.is_some() {
                     set = set.with(place);
                 }
@@ -66,32 +87,43 @@ pub fn open_fragments(
         }
         opened.push(fragment)?;
     }
-    Ok(Fragments { set, opened })
+    Ok(Fragments {
+        set,
+        opened,
+        refused,
+    })
 }
 
-/// Opens a fragment; where that isn't possible, says so if that is asked for.
+/// Opens a fragment; where that isn't possible, says so if that is asked for, and keeps why for the first that may be there.
 fn open_at(
     rt: &HostRuntime,
     sought: &Sought<'_, '_>,
     place: Place,
     missing: Missing,
+    refused: &mut Option<Refused>,
 ) -> Result<Option<FileFragment<SystemOpen>>, FileFault> {
     let alloc = rt.alloc();
     let name = sought.name_of(alloc, place)?;
     let path = path_in(alloc, sought.file.folder, name.as_str())?;
-    match open_below(rt, sought, name.as_str(), path.as_str()) {
-        Ok(fragment) => Ok(Some(fragment)),
-        Err(error) if error.kind() == ErrorKind::OutOfMemory => Err(FileFault::OutOfMemory),
-        Err(error) if !missing.says(error.kind()) => Ok(None),
-        Err(error) => {
-            let why = words_of(alloc, &error)?;
-            sought.file.say(
-                rt,
-                format!(in rt.alloc(); "rebuild-store: {name}: left out: {why}"),
-            );
-            Ok(None)
-        }
+    let error = match open_below(rt, sought, name.as_str(), path.as_str()) {
+        Ok(fragment) => return Ok(Some(fragment)),
+        Err(error) => error,
+    };
+    let kind = error.kind();
+    if kind == ErrorKind::OutOfMemory {
+        return Err(FileFault::OutOfMemory);
     }
+    if missing.says(kind) {
+        let why = words_of(alloc, &error)?;
+        sought.file.say(
+            rt,
+            format!(in rt.alloc(); "rebuild-store: {name}: left out: {why}"),
+        );
+    }
+    if refused.is_none() && !is_lost(kind) {
+        *refused = Some(Refused { place, error });
+    }
+    Ok(None)
 }
 
 /// Opens the fragment of a name in the store.
@@ -106,16 +138,16 @@ fn open_below(
 }
 
 /// Whether some of the fragments give the file that is described. What doesn't determine it isn't read.
-pub(crate) fn gives_file(
+pub(crate) fn given_by(
     rt: &HostRuntime,
     sought: &Sought<'_, '_>,
     fragments: &Fragments,
     set: PlaceSet,
-) -> Result<bool, FileFault>
+) -> Result<Given, FileFault>
     requires { vec_len fragments.now.opened ≡ 16 }
 {
     if !are_enough(rt.alloc(), sought, set)? {
-        return Ok(false);
+        return Ok(Given::Other);
     }
     let mut counted = Counted {
         file: Digested::new(Unkept::new()),
@@ -125,9 +157,13 @@ pub(crate) fn gives_file(
     let survivors = survivors_of(sought, fragments, set);
     let file_bytes = sought.described.length as usize;
     match read_file(rt.alloc(), &survivors, file_bytes, &mut counted) {
-        Ok(()) => Ok(counted.file.finish(&sought.described.digest).1),
+        Ok(()) => {
+            let (_, is_file) = counted.file.finish(&sought.described.digest);
+            Ok(if is_file { Given::File } else { Given::Other })
+        }
         Err(fault) if fault.is_for_memory() => Err(FileFault::OutOfMemory),
-        Err(_) => Ok(false),
+        Err(MendFault::Unread { index, error }) => Ok(Given::Unread { index, error }),
+        Err(_) => Ok(Given::Other),
     }
 }
 
@@ -152,14 +188,14 @@ pub(crate) fn parts_of(sought: &Sought<'_, '_>) -> PlaceSet {
     parts
 }
 
-/// Why a fragment can't be read, if the system refuses one: the file may be there with it.
-pub fn unread_of(
+/// Why a fragment can't be read, if the system refuses one.
+pub(crate) fn unread_now(
     rt: &HostRuntime,
     sought: &Sought<'_, '_>,
-    fragments: &Fragments,
+    opened: &[Option<FileFragment<SystemOpen>>],
 ) -> Result<Option<FileFault>, FileFault> {
     let alloc = rt.alloc();
-    for (place, fragment) in Place::ALL.iter().zip(fragments.opened.iter()) {
+    for (place, fragment) in Place::ALL.iter().zip(opened.iter()) {
         if !sought.described.code.has(*place) {
             continue;
         }
@@ -191,7 +227,7 @@ fn digest_below(
 }
 
 /// Whether the kind of an error says that a fragment isn't there, is no regular file or has another length.
-fn is_lost(kind: ErrorKind) -> bool {
+pub fn is_lost(kind: ErrorKind) -> bool {
     is_absent(kind) || kind == ErrorKind::InvalidInput || kind == ErrorKind::UnexpectedEof
 }
 

@@ -1,11 +1,11 @@
 //! Stripes that are to replace others: their names, and whether one is there.
 use crate::digesting::digest_at;
+use crate::fragments::is_lost;
 use crate::stored_file::StoredFile;
 use crate::target::Target;
 use lrc_code::{Code, Place};
 use std::alloc::{AllocError, Global};
 use std::fs::{self, Metadata};
-use std::io::ErrorKind;
 use store_faults::{FileFault, device, fragment_name};
 use store_folder::{Digest, Identity, is_absent, path_in, refuse_linked_folders};
 
@@ -64,6 +64,23 @@ pub fn shares_fragment(
 ) -> Result<bool, FileFault> {
     for code in [Code::Narrow, Code::Wide] {
         for place in code.places() {
+            let here = known(fragment_at(rt, file, code, *place))?;
+            if here.is_some() && is_one(here, known(fragment_at(rt, other, code, *place))?) {
+                return Ok(true);
+            }
+        }
+    }
+    Ok(false)
+}
+
+/// The same where what can't be looked at is a fault.
+pub fn shares_fragment_for_sure(
+    rt: &HostRuntime,
+    file: &StoredFile<'_, '_>,
+    other: &StoredFile<'_, '_>,
+) -> Result<bool, FileFault> {
+    for code in [Code::Narrow, Code::Wide] {
+        for place in code.places() {
             let here = fragment_at(rt, file, code, *place)?;
             if here.is_some() && is_one(here, fragment_at(rt, other, code, *place)?) {
                 return Ok(true);
@@ -73,8 +90,15 @@ pub fn shares_fragment(
     Ok(false)
 }
 
-/// Whether each fragment of a stripe has the name of another stripe's too, or the bytes of that one. What can't be looked at counts as not
-/// there.
+/// What is known to be somewhere, where what can't be looked at counts as not there.
+fn known(there: Result<Option<Metadata>, FileFault>) -> Result<Option<Metadata>, FileFault> {
+    match there {
+        Err(fault) if matches!(&fault, FileFault::Device { .. }) => Ok(None),
+        there => there,
+    }
+}
+
+/// Whether each fragment of a stripe has the name of another stripe's too, or the bytes of that one.
 pub fn has_fragments_of(
     rt: &HostRuntime,
     file: &StoredFile<'_, '_>,
@@ -112,7 +136,7 @@ fn has_fragment_of(
     Ok(own.is_some() && own == digest_of_fragment(rt, other, code, place, length)?)
 }
 
-/// The digest of a stripe's fragment at a place, if it has this length and can be read.
+/// The digest of a stripe's fragment at a place, if it is a regular file of this length.
 fn digest_of_fragment(
     rt: &HostRuntime,
     file: &StoredFile<'_, '_>,
@@ -125,8 +149,8 @@ fn digest_of_fragment(
     let path = path_in(alloc, file.folder, name.as_str())?;
     match digest_at(rt, path.as_str(), length, file.links) {
         Ok(digest) => Ok(Some(digest)),
-        Err(error) if error.kind() == ErrorKind::OutOfMemory => Err(FileFault::OutOfMemory),
-        Err(_) => Ok(None),
+        Err(error) if is_lost(error.kind()) => Ok(None),
+        Err(error) => Err(device(alloc, path.as_str(), error)),
     }
 }
 
@@ -138,7 +162,7 @@ fn is_one(here: Option<Metadata>, there: Option<Metadata>) -> bool {
     }
 }
 
-/// What the system says of the fragment of a stripe at a place, if it can be looked at.
+/// What the system says of the fragment of a stripe at a place, if one is there.
 fn fragment_at(
     rt: &HostRuntime,
     file: &StoredFile<'_, '_>,
@@ -150,8 +174,8 @@ fn fragment_at(
     let path = path_in(alloc, file.folder, name.as_str())?;
     match fs::symlink_metadata(rt, path.as_str()) {
         Ok(there) => Ok(Some(there)),
-        Err(error) if error.kind() == ErrorKind::OutOfMemory => Err(FileFault::OutOfMemory),
-        Err(_) => Ok(None),
+        Err(error) if is_absent(error.kind()) => Ok(None),
+        Err(error) => Err(device(alloc, path.as_str(), error)),
     }
 }
 

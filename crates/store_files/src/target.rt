@@ -5,9 +5,7 @@ ghost use Rattle.lrc_code.specs.Codes.{tables_of};
 use lrc_code::{Code, Place};
 use std::alloc::{AllocError, Global};
 use store_faults::fragment_name;
-use store_folder::{
-    Links, Pattern, SUMS_NAME, Sums, description_names, first_description_name, path_in,
-};
+use store_folder::{Links, Pattern, SUMS_NAME, Sums, path_in};
 
 /// A store that files are encoded into, and the digests of what is in it.
 #[derive(Drop)]
@@ -18,6 +16,8 @@ pub struct Target<'a> {
     pub sums: Sums,
     /// Whether the digests are others than those in the store's file of them.
     pub is_changed: bool,
+    /// Whether something has failed that was said, and that the work went on without.
+    pub has_failed: bool,
     pub links: Links,
     /// Whether the folders that names have are made.
     pub makes_folders: bool,
@@ -39,11 +39,11 @@ impl Target<'_> {
     }
 
     /// Whether a stripe may have this name: its fragments then have names that lead nowhere out of the store, and none is that of the
-    /// digests.
+    /// digests or in a folder of that name.
     pub fn has_names(&self, alloc: Global, stripe: &str) -> Result<bool, AllocError> {
         for place in self.code.places() {
             match self.pattern.name_of(alloc, self.code, stripe, *place)? {
-                Some(name) if name.as_str() != SUMS_NAME => {}
+                Some(name) if !is_of_sums(name.as_str()) => {}
                 _ => return Ok(false),
             }
         }
@@ -55,17 +55,18 @@ impl Target<'_> {
         fragment_name(alloc, &self.pattern, self.code, stripe, place)
     }
 
-    /// The names in the store of the copies of a stripe's description, also of the one in a store that was made before.
-    pub fn descriptions(&self, alloc: Global, stripe: &str) -> Result<Vec<String>, AllocError> {
-        let mut names = description_names(alloc, &self.pattern, self.code, stripe)?;
-        names.push(first_description_name(alloc, stripe)?)?;
-        Ok(names)
-    }
-
     /// The path of a name in the store.
     pub fn path(&self, alloc: Global, name: &str) -> Result<String, AllocError>
         ensures { IfOk result (λ path. string_bytes path ≡ self.now.folder.now ++ 47 ∷ name.now) }
     {
         path_in(alloc, self.folder, name)
+    }
+}
+
+/// Whether a name in the store is that of the digests, or in a folder of that name.
+fn is_of_sums(name: &str) -> bool {
+    match name.strip_prefix(SUMS_NAME) {
+        Some(rest) => rest.is_empty() || rest.starts_with('/'),
+        None => false,
     }
 }

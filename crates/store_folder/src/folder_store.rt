@@ -13,14 +13,14 @@ ghost use Rattle.store_folder.specs.Stays.{settled_over};
 ghost use Rattle.store_folder.specs.Temporary.{is_temporary};
 ghost use Rattle.stores.specs.Store.{never};
 
-use crate::links::{Links, followed_in, refuse_linked_in, status_at};
+use crate::links::{Links, followed_in, refuse_linked_in};
 use crate::placing::{Tried, take_after, try_path};
 use crate::site::Site;
 use crate::surviving::{FileFragment, open_fragment_in};
 use crate::syncing::Touched;
 use crate::unfinished::Unfinished;
 use crate::unfinished_file::{UnfinishedFile, create_file};
-use folders::{Folder, Rights, SystemFolder, folder_of, remove_temporary};
+use folders::{Folder, SystemFolder, folder_of, remove_temporary};
 use lrc_code::Place;
 use std::alloc::{AllocError, Global};
 use std::io::{self, ErrorKind};
@@ -89,24 +89,9 @@ impl<'a, F: Folder> FolderStore<'a, F> {
     }
 
     /// The path of a fragment in a folder, if it has a name.
-    fn path_of(&self, folder: &str, stripe: &str, place: Place) -> io::Result<String> {
+    pub(crate) fn path_of(&self, folder: &str, stripe: &str, place: Place) -> io::Result<String> {
         let name = self.site.name_of(self.rt.alloc(), stripe, place)?;
         Ok(path_in(self.rt.alloc(), folder, name.as_str())?)
-    }
-
-    /// Those of a file of the stripe, whose owner and rights its rebuilt fragments get.
-    fn rights_of(&self, stripe: &str) -> io::Result<Option<Rights>> {
-        let mut refused = None;
-        for place in self.site.code.places() {
-            let path = self.path_of(self.site.folder, stripe, *place)?;
-            match status_at(&self.files, path.as_str(), self.site.links) {
-                Ok(status) if status.is_file() => return Ok(Some(status.rights)),
-                Ok(_) => {}
-                Err(error) if error.kind() == ErrorKind::NotFound => {}
-                Err(error) => refused = Some(error),
-            }
-        }
-        refused.map_or(Ok(None), Err)
     }
 
     /// A new fragment for a place of a stripe, in a file under a temporary name.
@@ -147,7 +132,7 @@ impl<'a, F: Folder> FolderStore<'a, F> {
         let alloc = self.rt.alloc();
         let site = self.site;
         let name = self.site.name_of(self.rt.alloc(), stripe, place)?;
-        site.refuse_unmounted(name.as_str())?;
+        site.refuse_name(alloc, name.as_str(), false)?;
         refuse_linked_in(alloc, &self.files, site.target, name.as_str(), site.links)?;
         let named = path_in(alloc, site.target, name.as_str())?;
         match site.links {
@@ -221,7 +206,7 @@ impl<'a, F: Folder> FolderStore<'a, F> {
     {
         let sum = self.site.sum_of(self.rt.alloc(), stripe, place)?;
         file.refuse_part(sum)?;
-        if let Some(rights) = self.rights_of(stripe)? {
+        if let Some(rights) = self.rights_of(stripe, place)? {
             take_after(&file.unfinished.file, &rights)?;
         }
         self.new_path(stripe, place)

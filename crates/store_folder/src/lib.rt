@@ -14,6 +14,7 @@ mod regular;
 mod replacing;
 mod same;
 mod separate;
+mod shared;
 mod site;
 mod sums;
 mod surviving;
@@ -22,7 +23,7 @@ mod unfinished;
 mod unfinished_file;
 mod writing;
 
-pub use described::read_description;
+pub use described::{digest_of_description, read_description};
 pub use digesting::{digest_of, digests_of};
 pub use exchanging::exchange_new;
 pub use folder_store::FolderStore;
@@ -36,6 +37,7 @@ pub use placing::{
 };
 pub use regular::{RegularFile, is_named, open_as, open_regular};
 pub use separate::{SeparateFile, SeparateStore};
+pub use shared::{Shared, is_name_of_store, name_in};
 pub use site::{NO_MEDIUM, Site};
 pub use store_names::{
     DESCRIPTION, KEPT, Layout, Part, Pattern, PatternFault, description_names,

@@ -59,13 +59,11 @@ pub(crate) fn followed_in<F: Folder>(
     Err(io::Error::from(ErrorKind::InvalidInput))
 }
 
-/// Whether a link is at a path of a folder. Where its user may look at nothing, nothing is known of any.
+/// Whether a link is at a path of a folder. Where that can't be looked at, a link may be there.
 fn is_link<F: Folder>(folder: &F, path: &str) -> io::Result<bool> {
     match folder.status(path) {
         Ok(status) => Ok(status.is_link()),
-        Err(error) if is_absent(error.kind()) || error.kind() == ErrorKind::PermissionDenied => {
-            Ok(false)
-        }
+        Err(error) if is_absent(error.kind()) => Ok(false),
         Err(error) => Err(error),
     }
 }

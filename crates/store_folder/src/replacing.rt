@@ -1,8 +1,9 @@
 //! Replacing a fragment, which is kept under its second name.
 ghost use Rattle.std.specs.Prelude.{◌≡◌, ◌⊎◌, true, false, IfOk, IfSome, IsSome, string_bytes};
 ghost use Rattle.folders.specs.Placed.{HasPath};
+ghost use Rattle.store_folder.specs.Digests.{IsAsListed};
 ghost use Rattle.store_folder.specs.Done.{HaveFoldersOf, IsDue, IsNamed};
-ghost use Rattle.store_folder.specs.Kept.{KeepsEach};
+ghost use Rattle.store_folder.specs.Kept.{IsPathOf, KeepsEach};
 ghost use Rattle.store_folder.specs.Replaced.{ReplacesIn, ReplacesOne, second_path};
 ghost use Rattle.store_folder.specs.Temporary.{is_temporary};
 
@@ -35,11 +36,30 @@ impl<F: Folder> FolderStore<'_, F> {
             (F.New.written file.unfinished.file) self.new.touched.folders.items (F.calls self.new.files)) }
     {
         let mut file = file;
-        let finished = self.finish(&mut file, stripe, place);
+        let finished = self.finish_over(&mut file, stripe, place);
         let UnfinishedFile { unfinished, .. } = file;
         match finished {
             Ok(path) => self.exchange(unfinished, path.as_str()),
             Err(error) => Err(self.given_up(unfinished, error)),
+        }
+    }
+
+    /// Makes a whole file ready for the name of one that is there, which it says, unless another name leads to that too.
+    fn finish_over(
+        &self,
+        file: &mut UnfinishedFile<F::New>,
+        stripe: &str,
+        place: Place,
+    ) -> io::Result<String>
+        ensures same { file.new.unfinished ≡ file.old.unfinished }
+        ensures whole { IfOk result (λ _. IsSome (F.New.written file.new.unfinished.file)) }
+        ensures listed { IfOk result (λ _. IsAsListed self.now.site stripe.now place (F.New.written file.new.unfinished.file)) }
+        ensures path { IfOk result (λ path. IsPathOf self.now.site stripe.now place (string_bytes path)) }
+        ensures lasting { IfOk result (λ path. is_temporary (string_bytes path) ≡ false) }
+    {
+        match self.site.refusal(self.rt.alloc(), stripe, place, true)? {
+            Some(error) => Err(error),
+            None => self.finish(file, stripe, place),
         }
     }
 

@@ -4,6 +4,7 @@ ghost use Rattle.store_names.specs.Names.{IsNameOf};
 ghost use Rattle.store_folder.specs.Digests.{IsSumOf};
 
 use crate::links::Links;
+use crate::shared::Shared;
 use lrc_code::{Code, Place};
 use std::alloc::{AllocError, Global};
 use std::io::{self, ErrorKind};
@@ -28,6 +29,8 @@ pub struct Site<'a> {
     pub links: Links,
     /// The folders of the store at which no disk is mounted, and into which nothing is to be written.
     pub unmounted: &'a [String],
+    /// The names that share a path, if that was looked for: to write into the store, where links are followed.
+    pub shared: Option<&'a Shared>,
 }
 
 impl Site<'_> {
@@ -40,6 +43,33 @@ impl Site<'_> {
             }
         }
         Ok(())
+    }
+
+    /// Refuses to write under a name whose folder is one at which no disk is mounted, or that leads where another name of the store leads.
+    pub fn refuse_name(&self, alloc: Global, name: &str, is_replaced: bool) -> io::Result<()> {
+        self.refuse_unmounted(name)?;
+        match self.shared {
+            Some(shared) => shared.refuse(alloc, &self.pattern, self.code, name, is_replaced),
+            None => Ok(()),
+        }
+    }
+
+    /// Why a stripe's fragment at a place can't be made, or replaced, if it is known before that is tried.
+    pub fn refusal(
+        &self,
+        alloc: Global,
+        stripe: &str,
+        place: Place,
+        is_replaced: bool,
+    ) -> Result<Option<io::Error>, AllocError> {
+        let Some(name) = self.pattern.name_of(alloc, self.code, stripe, place)? else {
+            return Ok(None);
+        };
+        match self.refuse_name(alloc, name.as_str(), is_replaced) {
+            Ok(()) => Ok(None),
+            Err(error) if error.kind() == ErrorKind::OutOfMemory => Err(AllocError),
+            Err(error) => Ok(Some(error)),
+        }
     }
 
     /// The name of a stripe's fragment at a place.

@@ -7,7 +7,9 @@
 #![tactic(auto)]
 
 mod disks;
+mod ends;
 mod expecting;
+mod kinds;
 mod leaving;
 mod listed_descriptions;
 mod listed_folders;
@@ -18,6 +20,7 @@ mod votes;
 mod watching;
 
 pub use disks::{NOT_A_FOLDER, Unlisted};
+pub use ends::{End, Ends, NamedEnd, NamedFolder, UnknownEnd};
 pub use expecting::expect_listed;
 pub use leaving::left_in;
 pub use listing::{Listing, list};

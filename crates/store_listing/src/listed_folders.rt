@@ -7,6 +7,7 @@ use std::alloc::{AllocError, Global};
 use std::fs::Metadata;
 use std::io::{self, ErrorKind};
 use std::os::unix::fs::MetadataExt;
+use store_folder::Links;
 use store_names::path_in;
 
 impl Listing {
@@ -58,6 +59,9 @@ impl Listing {
         wanted: &Wanted<'_>,
     ) -> Result<(), AllocError> {
         self.note_writers(alloc, path, metadata)?;
+        if wanted.links == Links::Followed {
+            self.ends.note_folder(alloc, inside, metadata)?;
+        }
         let here = Identity::of(metadata);
         for watched in wanted.watched {
             if watched.folder == here {

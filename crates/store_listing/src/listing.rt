@@ -1,9 +1,11 @@
 //! What is in a store: which fragments of which stripes, and how many bytes each has; no times are kept.
 use crate::disks::{NOT_A_FOLDER, Unlisted};
+use crate::ends::Ends;
+use crate::kinds::{found_of, may_be_made, path_inside};
 use crate::stripe_names::StripeNames;
 use crate::watching::{Foreign, Wanted, Watched};
 use folders::folder_of;
-use std::alloc::{AllocError, Global};
+use std::alloc::AllocError;
 use std::collections::BTreeSet;
 use std::fs::{self, Metadata};
 use std::io::{self, ErrorKind};
@@ -27,10 +29,14 @@ pub struct Listing {
     pub links: u64,
     /// The folders that links led to.
     pub linked: BTreeSet<String>,
+    /// Where names lead that were looked at, if links are followed.
+    pub ends: Ends,
     /// A folder of the store that others than root may write into.
     pub foreign: Option<Foreign>,
     /// The first path of those that were to be watched that was found to be one of the store's.
     pub watched: Option<String>,
+    /// The stripes of descriptions that the system refuses to read.
+    pub(crate) unread: Vec<String>,
     /// Whether fragments of other parts are looked at too.
     looks_at_all: bool,
 }
@@ -44,8 +50,10 @@ impl Drop for Listing {
             link: _,
             links: _,
             linked: _,
+            ends: _,
             foreign: _,
             watched: _,
+            unread: _,
             looks_at_all: _,
         } = self;
     }
@@ -55,7 +63,7 @@ impl Drop for Listing {
 pub fn list(rt: &HostRuntime, folder: &str, wanted: &Wanted<'_>) -> io::Result<Listing> {
     let mut listing = Listing::new(rt, wanted);
     match listing.add_all(rt, folder, wanted) {
-        Ok(()) => Ok(listing),
+        Ok(()) => listing.with_unread(rt.alloc()),
         Err(error) => Err(error),
     }
 }
@@ -71,9 +79,12 @@ impl Listing {
             link: None,
             links: 0,
             linked: BTreeSet::new(alloc),
+            ends: Ends::new(alloc),
             foreign: None,
             watched: None,
-            looks_at_all: wanted.watched.iter().any(Watched::may_be_fragment),
+            unread: Vec::new(alloc),
+            looks_at_all: wanted.links == Links::Followed
+                || wanted.watched.iter().any(Watched::may_be_fragment),
         }
     }
 
@@ -152,6 +163,7 @@ impl Listing {
                 if depth == depth_of_names || is_of_runs(last_of(name.as_str())) {
                     self.add(rt, folder, wanted, name.as_str())?;
                 } else if last_of(name.as_str()) != LOST_AND_FOUND {
+                    self.add_first(rt, folder, wanted, name.as_str())?;
                     for entry in self.entries(rt, folder, name.as_str(), wanted)? {
                         below.push(entry)?;
                     }
@@ -352,47 +364,32 @@ impl Listing {
     ) -> Result<io::Result<Metadata>, AllocError> {
         let alloc = rt.alloc();
         let metadata = fs::metadata(rt, path.as_str());
-        match followed(rt, path) {
-            Ok(path) => {
-                let folder = String::from_str(alloc, folder_of(path.as_str()))?;
+        match followed(rt, String::from_str(alloc, path.as_str())?) {
+            Ok(end) => {
+                let folder = String::from_str(alloc, folder_of(end.as_str()))?;
                 match fs::metadata(rt, folder.as_str()) {
-                    Ok(there) => self.note_writers(alloc, folder.as_str(), &there)?,
+                    Ok(there) => {
+                        self.note_writers(alloc, folder.as_str(), &there)?;
+                        self.ends.note_link(alloc, path, &there, end.as_str())?;
+                    }
                     Err(error) if error.kind() == ErrorKind::OutOfMemory => return Err(AllocError),
                     // Others may write there, so that nothing is to be made.
-                    Err(error) if !is_absent(error.kind()) => return Ok(Err(error)),
+                    Err(error) if !is_absent(error.kind()) => {
+                        self.ends.note_unknown(path, &error)?;
+                        return Ok(Err(error));
+                    }
                     Err(_) => {}
                 }
                 self.linked.insert(folder)?;
             }
             Err(error) if error.kind() == ErrorKind::OutOfMemory => return Err(AllocError),
-            Err(_) => {}
+            // So many links are followed nowhere.
+            Err(error) if error.kind() == ErrorKind::InvalidInput => {}
+            Err(error) => {
+                self.ends.note_unknown(path, &error)?;
+                return Ok(Err(error));
+            }
         }
         Ok(metadata)
     }
-}
-
-/// Whether a name of a store is one that a fragment or a description may get.
-fn may_be_made(wanted: &Wanted<'_>, name: &str) -> bool {
-    wanted.pattern.read(wanted.code, name).is_some() || described_stripe(last_of(name)).is_some()
-}
-
-/// The path of a folder inside the store's.
-fn path_inside(alloc: Global, folder: &str, inside: &str) -> Result<String, AllocError> {
-    if inside.is_empty() {
-        return String::from_str(alloc, folder);
-    }
-    path_in(alloc, folder, inside)
-}
-
-/// What something is; none for a folder.
-fn found_of(metadata: &Metadata) -> Option<Found> {
-    if metadata.is_dir() {
-        return None;
-    }
-    if metadata.is_file() {
-        return Some(Found::File {
-            length: metadata.len(),
-        });
-    }
-    Some(Found::Other)
 }

@@ -1,11 +1,10 @@
 //! How a store is listed, and what is looked out for meanwhile: a path that may be one of its names, folders that others may write into.
 use folders::{Identity, folder_of};
 use lrc_code::Code;
-use std::alloc::AllocError;
 use std::fs::{self, Metadata};
-use std::io::{ErrorKind, Read};
+use std::io::{self, Read};
 use std::os::unix::fs::MetadataExt;
-use store_folder::{Links, SUMS_NAME, open_regular};
+use store_folder::{Links, SUMS_NAME, Sums, is_absent, open_regular};
 use store_names::{KEPT, Part, Pattern, described_stripe, is_of_runs, last_of};
 
 /// The rights by which others than a file's user may write: of the group, and of everybody.
@@ -29,6 +28,10 @@ pub struct Wanted<'a> {
     /// The part whose stripes are listed, or all.
     pub part: Option<Part>,
     pub links: Links,
+    /// Whether all copies of a stripe's description are asked for its code, and not only the first that is met.
+    pub asks_copies: bool,
+    /// The digests: a copy that differs from its own isn't asked.
+    pub sums: Option<&'a Sums>,
     /// Paths that may be some of the store's.
     pub watched: &'a [Watched<'a>],
 }
@@ -46,13 +49,13 @@ pub struct Watched<'a> {
 
 impl<'a> Watched<'a> {
     /// A path that was given and leads to this path, if the folder of that is there. What a run writes begins with one of these texts, of
-    /// at most 64 bytes, or is empty.
+    /// at most 64 bytes, or is empty. If the system refuses to show what is there, it isn't known whether it is the store's.
     pub fn at(
         rt: &HostRuntime,
         given: &'a str,
         path: &'a str,
         begins: &[&str],
-    ) -> Result<Option<Watched<'a>>, AllocError> {
+    ) -> io::Result<Option<Watched<'a>>> {
         let Some(folder) = what_is_at(rt, folder_of(path))? else {
             return Ok(None);
         };
@@ -71,12 +74,12 @@ impl<'a> Watched<'a> {
     }
 }
 
-/// Which file or folder is at a path; none where the system doesn't show one.
-fn what_is_at(rt: &HostRuntime, path: &str) -> Result<Option<Identity>, AllocError> {
+/// Which file or folder is at a path, if one is.
+fn what_is_at(rt: &HostRuntime, path: &str) -> io::Result<Option<Identity>> {
     match fs::metadata(rt, path) {
         Ok(metadata) => Ok(Some(Identity::of(&metadata))),
-        Err(error) if error.kind() == ErrorKind::OutOfMemory => Err(AllocError),
-        Err(_) => Ok(None),
+        Err(error) if is_absent(error.kind()) => Ok(None),
+        Err(error) => Err(error),
     }
 }
 

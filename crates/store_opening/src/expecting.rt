@@ -1,28 +1,26 @@
 //! What has to be in a store: what a list of stripes names, and the digests.
 use crate::opening::Opening;
+use lrc_code::Code;
 use std::fs;
 use std::io::{self, BufRead, BufReader, ErrorKind};
 use store_faults::{StoreFault, device_fault, say};
 use store_folder::{Links, SUMS_NAME, Sums, SumsFault, look_at, path_in, read_sums};
-use store_listing::{Listing, Wanted, expect_listed};
+use store_listing::{Listing, expect_listed};
 
-/// Notes what has to be there by a list, the digests and what these name, and gives the digests.
-pub(crate) fn expected(
+/// Notes what has to be there by digests, if there are some.
+pub(crate) fn expect_sums(
     rt: &HostRuntime,
     opening: &Opening<'_>,
-    wanted: &Wanted<'_>,
+    code: Code,
+    sums: Option<&Sums>,
     listing: &mut Listing,
-) -> Result<Option<Sums>, StoreFault> {
-    if let Some(path) = opening.stripes {
-        expect_stripes(rt, listing, path)?;
-    }
-    let sums = sums_of(rt, opening)?;
-    if let Some(sums) = &sums {
+) -> Result<(), StoreFault> {
+    if let Some(sums) = sums {
         let names = &mut listing.names;
-        let count = expect_listed(rt.alloc(), sums, &wanted.pattern, wanted.code, names)?;
+        let count = expect_listed(rt.alloc(), sums, &opening.pattern, code, names)?;
         say_strange_sums(rt, opening, count);
     }
-    Ok(sums)
+    Ok(())
 }
 
 /// Says that digests which were given are of no file of the store.
@@ -35,8 +33,15 @@ fn say_strange_sums(rt: &HostRuntime, opening: &Opening<'_>, expected: u64) {
     }
 }
 
-/// Adds the stripes that a file names, one on each line.
-fn expect_stripes(rt: &HostRuntime, listing: &mut Listing, path: &str) -> Result<(), StoreFault> {
+/// Adds the stripes that a file names, one on each line, if one is given.
+pub(crate) fn expect_stripes(
+    rt: &HostRuntime,
+    opening: &Opening<'_>,
+    listing: &mut Listing,
+) -> Result<(), StoreFault> {
+    let Some(path) = opening.stripes else {
+        return Ok(());
+    };
     match read_names(rt, listing, path) {
         Ok(()) => Ok(()),
         Err(error) => Err(device_fault(String::from_str(rt.alloc(), path)?, error)),
@@ -57,7 +62,7 @@ fn read_names(rt: &HostRuntime, listing: &mut Listing, path: &str) -> io::Result
 }
 
 /// The checksums that the opening name, or those in the store.
-fn sums_of(rt: &HostRuntime, opening: &Opening<'_>) -> Result<Option<Sums>, StoreFault> {
+pub(crate) fn sums_of(rt: &HostRuntime, opening: &Opening<'_>) -> Result<Option<Sums>, StoreFault> {
     let alloc = rt.alloc();
     let (path, links) = match opening.sums {
         Some(path) => (String::from_str(alloc, path)?, Links::Followed),

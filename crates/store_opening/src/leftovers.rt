@@ -2,9 +2,11 @@
 use crate::locks::Locks;
 use crate::sharing::OtherRun;
 use std::alloc::AllocError;
+use std::collections::BTreeSet;
+use std::fs;
 use std::io::{self, ErrorKind};
 use store_faults::{say, words_of};
-use store_folder::{Leftover, is_left_by, remove_leftover};
+use store_folder::{Identity, Leftover, is_left_by, remove_leftover};
 use store_listing::{Listing, left_in};
 use store_names::last_of;
 
@@ -17,26 +19,33 @@ pub fn remove_leftovers(
     tag: &str,
 ) -> io::Result<bool> {
     let mut are_removed = true;
+    let mut met = BTreeSet::new(rt.alloc());
     for path in &listing.leftovers {
         if is_left_by(last_of(path.as_str()), tag) {
-            are_removed = remove(rt, locks, path.as_str(), true)? && are_removed;
+            are_removed = remove(rt, locks, path.as_str(), true, &mut met)? && are_removed;
         }
     }
     for folder in &listing.linked {
-        are_removed = remove_linked(rt, locks, folder.as_str(), tag)? && are_removed;
+        are_removed = remove_linked(rt, locks, folder.as_str(), tag, &mut met)? && are_removed;
     }
     Ok(are_removed)
 }
 
 /// The same of a folder that a link leads to. It is named if it can't be listed; one that isn't there has nothing.
-fn remove_linked(rt: &HostRuntime, locks: &Locks, folder: &str, tag: &str) -> io::Result<bool> {
+fn remove_linked(
+    rt: &HostRuntime,
+    locks: &Locks,
+    folder: &str,
+    tag: &str,
+    met: &mut BTreeSet<String>,
+) -> io::Result<bool> {
     let paths = match left_in(rt, folder, tag) {
         Ok(paths) => paths,
         Err(error) => return say_unlisted(rt, folder, error),
     };
     let mut are_removed = true;
     for path in &paths {
-        are_removed = remove(rt, locks, path.as_str(), false)? && are_removed;
+        are_removed = remove(rt, locks, path.as_str(), false, met)? && are_removed;
     }
     Ok(are_removed)
 }
@@ -59,8 +68,23 @@ fn say_unlisted(rt: &HostRuntime, folder: &str, error: io::Error) -> io::Result<
     }
 }
 
-/// Removes a file, and says so. Says whether it could be removed, or is to stay.
-fn remove(rt: &HostRuntime, locks: &Locks, path: &str, is_known_dead: bool) -> io::Result<bool> {
+/// Removes a file, and says so, if it wasn't met before. Says whether it could be removed, or is to stay.
+fn remove(
+    rt: &HostRuntime,
+    locks: &Locks,
+    path: &str,
+    is_known_dead: bool,
+    met: &mut BTreeSet<String>,
+) -> io::Result<bool> {
+    match is_new(rt, path, met) {
+        Ok(true) => {}
+        Ok(false) => return Ok(true),
+        Err(error) if error.kind() == ErrorKind::OutOfMemory => return Err(error),
+        Err(error) => {
+            say_done(rt, path, &Leftover::Refused(error))?;
+            return Ok(false);
+        }
+    }
     if locks.is_worked_on(rt, path) {
         return Ok(true);
     }
@@ -76,6 +100,22 @@ fn remove(rt: &HostRuntime, locks: &Locks, path: &str, is_known_dead: bool) -> i
     let done = remove_leftover(rt, path, is_known_dead);
     say_done(rt, path, &done)?;
     Ok(!matches!(done, Leftover::Refused(_)))
+}
+
+/// Whether a file is met that wasn't met before: its folder may have several names. One that isn't there any more isn't met.
+fn is_new(rt: &HostRuntime, path: &str, met: &mut BTreeSet<String>) -> io::Result<bool> {
+    let Identity { device, node } = match fs::symlink_metadata(rt, path) {
+        Ok(there) => Identity::of(&there),
+        Err(error) if error.kind() == ErrorKind::NotFound => return Ok(false),
+        Err(error) => return Err(error),
+    };
+    let name = last_of(path);
+    let key = format!(in rt.alloc(); "{device}/{node}/{name}")?;
+    if met.contains(key.as_str()) {
+        return Ok(false);
+    }
+    met.insert(key)?;
+    Ok(true)
 }
 
 /// Says what became of a leftover at a path, unless it was left to another run.

@@ -15,6 +15,7 @@ mod locks;
 mod open_stores;
 mod opening;
 mod refusing;
+mod shared;
 mod sharing;
 mod unlisted;
 mod unmounted;

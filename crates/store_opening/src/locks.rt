@@ -112,6 +112,14 @@ impl Locks {
         Ok(())
     }
 
+    /// The path of the file of a part's lock, or of the folder if there is none.
+    pub fn named<'p>(&'p self, folder: &'p str) -> &'p str {
+        match &self.part {
+            Some(path) => path.as_str(),
+            None => folder,
+        }
+    }
+
     /// Removes the file of a part's lock while it is still held, so that no other run holds a file that has no name.
     pub fn release(&self, rt: &HostRuntime) -> io::Result<()> {
         if let (Some(path), Some(file)) = (&self.part, self.files.last()) {

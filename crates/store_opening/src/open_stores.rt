@@ -1,17 +1,17 @@
 //! Stores: a folder, its code, and what is in it.
-use crate::expecting::expected;
+use crate::expecting::{expect_stripes, expect_sums, sums_of};
 use crate::locks::Locks;
 use crate::opening::{Access, Opening};
 use crate::refusing::{refuse_other_code, refuse_watched, refuse_writing};
-use crate::unlisted::{listed, say_unlisted};
-use crate::unmounted::{leave_alone, left_alone};
+use crate::shared::shared_names;
+use crate::unlisted::{listed, say_unlisted, say_unlisted_target};
+use crate::unmounted::{LeftAlone, leave_alone, left_alone};
 use lrc_code::Code;
-use std::alloc::AllocError;
-use std::io::ErrorKind;
+use std::alloc::{AllocError, Global};
 use std::mem;
-use store_faults::{COUNTER_PREFIX, REPORT_HEADER, ROW_BEGIN, StoreFault};
-use store_folder::{Site, Sums, followed};
-use store_listing::{Listing, StoreStripes, StripeNames, Wanted, Watched};
+use store_faults::{COUNTER_PREFIX, REPORT_HEADER, ROW_BEGIN, StoreFault, device_fault};
+use store_folder::{Shared, Site, Sums, followed};
+use store_listing::{Listing, StoreStripes, StripeNames, Unlisted, Wanted, Watched};
 use store_repair::Stripe;
 
 /// How what runs write to such paths begins.
@@ -34,6 +34,8 @@ pub struct OpenStore {
     pub has_unlisted: bool,
     /// The folders of disks at which none is mounted, and into which nothing is to be written.
     pub unmounted: Vec<String>,
+    /// The names under which nothing is to be written, since others lead there too.
+    pub shared: Shared,
 }
 
 impl Drop for OpenStore {
@@ -48,6 +50,7 @@ impl Drop for OpenStore {
             target: _,
             has_unlisted: _,
             unmounted: _,
+            shared: _,
         } = self;
     }
 }
@@ -86,6 +89,7 @@ struct Known {
     found: StoreStripes,
     has_unlisted: bool,
     unmounted: Vec<String>,
+    shared: Shared,
 }
 
 /// A store that is open, but for its locks.
@@ -116,6 +120,7 @@ impl Unlocked {
                 found,
                 has_unlisted,
                 unmounted,
+                shared,
             },
             sums,
         } = self;
@@ -129,6 +134,7 @@ impl Unlocked {
             target,
             has_unlisted,
             unmounted,
+            shared,
         }
     }
 }
@@ -149,42 +155,41 @@ fn open_locked(
     }
     let mut watched = Vec::new(alloc);
     for (given, end) in &ends {
-        if let Some(path) = Watched::at(rt, given.as_str(), end.as_str(), &WRITTEN)? {
-            watched.push(path)?;
+        match Watched::at(rt, given.as_str(), end.as_str(), &WRITTEN) {
+            Ok(Some(path)) => watched.push(path)?,
+            Ok(None) => {}
+            Err(error) => {
+                return Err(device_fault(String::from_str(alloc, given.as_str())?, error));
+            }
         }
     }
     open_watched(rt, opening, locks, watched.as_slice())
 }
 
-/// The path that a path's links lead to, or itself if they lead nowhere.
-fn end_of_links(rt: &HostRuntime, path: &str) -> Result<String, AllocError> {
+/// The path that a path's links lead to. Where that can't be seen, a report might be written over a file of the store.
+fn end_of_links(rt: &HostRuntime, path: &str) -> Result<String, StoreFault> {
     match followed(rt, String::from_str(rt.alloc(), path)?) {
         Ok(end) => Ok(end),
-        Err(error) if error.kind() == ErrorKind::OutOfMemory => Err(AllocError),
-        Err(_) => String::from_str(rt.alloc(), path),
+        Err(error) => Err(device_fault(String::from_str(rt.alloc(), path)?, error)),
     }
 }
 
 /// Opens a store, and looks out for paths that may be some of its own. What was made is handed on by reference: a function proves at each
-/// of its ends that it drops all that it owns.
+/// of its ends that it drops all that it owns. That the digests can't be taken is said last.
 fn open_watched(
     rt: &HostRuntime,
     opening: &Opening<'_>,
     locks: &Locks,
     watched: &[Watched<'_>],
 ) -> Result<Unlocked, StoreFault> {
-    let wanted = Wanted {
-        pattern: opening.pattern,
-        code: opening.code.unwrap_or(Code::Wide),
-        knows_code: opening.code.is_some(),
-        has_stripes: true,
-        part: opening.part,
-        links: opening.links,
-        watched,
+    let sums = sums_of(rt, opening);
+    let mut listings = match &sums {
+        Ok(sums) => listings_of(rt, opening, locks, watched, sums.as_ref())?,
+        Err(_) => listings_of(rt, opening, locks, watched, None)?,
     };
-    let mut listings = listings_of(rt, opening, &wanted)?;
-    match opened_in(rt, opening, locks, &wanted, &mut listings) {
-        Ok((known, sums)) => Ok(Unlocked {
+    let sums = sums?;
+    match opened_in(rt, opening, sums.as_ref(), &mut listings) {
+        Ok(known) => Ok(Unlocked {
             listings,
             known,
             sums,
@@ -193,33 +198,57 @@ fn open_watched(
     }
 }
 
-/// Lists the folders of a store.
+/// Lists the folders of a store, and what has to be there by a list; a store is refused by what is in its folders.
 fn listings_of(
     rt: &HostRuntime,
     opening: &Opening<'_>,
-    wanted: &Wanted<'_>,
+    locks: &Locks,
+    watched: &[Watched<'_>],
+    sums: Option<&Sums>,
 ) -> Result<Listings, StoreFault> {
-    let listing = listed(rt, opening.folder, wanted)?;
-    match listed_target(rt, opening, wanted) {
-        Ok(target) => Ok(Listings { listing, target }),
+    let wanted = Wanted {
+        pattern: opening.pattern,
+        code: opening.code.unwrap_or(Code::Wide),
+        knows_code: opening.code.is_some(),
+        has_stripes: true,
+        part: opening.part,
+        links: opening.links,
+        asks_copies: true,
+        sums,
+        watched,
+    };
+    let listing = listed(rt, opening.folder, &wanted)?;
+    match listed_target(rt, opening, &wanted) {
+        Ok(target) => allowed(rt, opening, locks, Listings { listing, target }),
         Err(fault) => Err(fault),
     }
 }
 
-/// What is known of a store whose folders were listed, and its digests, if it may be opened.
-fn opened_in(
+/// Folders that were listed, if the store isn't refused by what is in them.
+fn allowed(
     rt: &HostRuntime,
     opening: &Opening<'_>,
     locks: &Locks,
-    wanted: &Wanted<'_>,
-    listings: &mut Listings,
-) -> Result<(Known, Option<Sums>), StoreFault> {
-    refuse_listed(rt, opening, locks, listings)?;
-    let sums = expected(rt, opening, wanted, &mut listings.listing)?;
-    match known_of(rt, opening, &mut listings.listing) {
-        Ok(known) => Ok((known, sums)),
+    listings: Listings,
+) -> Result<Listings, StoreFault> {
+    let mut listings = listings;
+    refuse_listed(rt, opening, locks, &listings)?;
+    match expect_stripes(rt, opening, &mut listings.listing) {
+        Ok(()) => Ok(listings),
         Err(fault) => Err(fault),
     }
+}
+
+/// What is known of a store whose folders were listed, if it may be opened.
+fn opened_in(
+    rt: &HostRuntime,
+    opening: &Opening<'_>,
+    sums: Option<&Sums>,
+    listings: &mut Listings,
+) -> Result<Known, StoreFault> {
+    let code = opening.code.unwrap_or(Code::Wide);
+    expect_sums(rt, opening, code, sums, &mut listings.listing)?;
+    known_of(rt, opening, listings)
 }
 
 /// Refuses a store by what is in its folders.
@@ -241,22 +270,36 @@ fn refuse_listed(
 fn known_of(
     rt: &HostRuntime,
     opening: &Opening<'_>,
-    listing: &mut Listing,
+    listings: &mut Listings,
 ) -> Result<Known, StoreFault> {
+    let Listings { listing, target } = listings;
     let code = match opening.code {
         Some(code) => code,
         None => listing.names.code(),
     };
     refuse_other_code(rt, opening, listing, code)?;
-    let has_unlisted = say_unlisted(rt, listing, &opening.pattern, code)?;
-    let mut found = stripes_of(rt, opening, code, listing)?;
-    let unmounted = left_out(rt, opening, code, &mut found)?;
+    let alloc = rt.alloc();
+    let names = mem::replace(&mut listing.names, StripeNames::new(alloc, None));
+    let is_empty = names.is_empty();
+    let mut found = names.settled(alloc, &opening.pattern, code)?;
+    let has_unlisted = say_unlisted(rt, listing, &opening.pattern, code, &found)?;
+    refuse_empty(alloc, opening, &found, is_empty)?;
+    let LeftAlone {
+        names: unmounted,
+        has_unseen,
+    } = left_out(rt, opening, code, listing.unlisted.as_slice(), &mut found)?;
+    let is_unlisted = match target.as_ref() {
+        Some(target) => say_unlisted_target(rt, target)?,
+        None => false,
+    };
+    let shared = shared_names(rt, opening, code, listing, target.as_ref())?;
     Ok(Known {
         folder: String::from_str(rt.alloc(), opening.folder)?,
         code,
         found,
-        has_unlisted,
+        has_unlisted: has_unlisted || has_unseen || is_unlisted,
         unmounted,
+        shared,
     })
 }
 
@@ -265,17 +308,18 @@ fn left_out(
     rt: &HostRuntime,
     opening: &Opening<'_>,
     code: Code,
+    unlisted: &[Unlisted],
     found: &mut StoreStripes,
-) -> Result<Vec<String>, StoreFault> {
-    let unmounted = left_alone(rt, opening, code)?;
+) -> Result<LeftAlone, StoreFault> {
+    let alone = left_alone(rt, opening, code, unlisted)?;
     leave_alone(
         rt.alloc(),
         &opening.pattern,
         code,
-        unmounted.as_slice(),
+        alone.names.as_slice(),
         found,
     )?;
-    Ok(unmounted)
+    Ok(alone)
 }
 
 /// What runs have left in the folder that rebuilt fragments are written to, if that isn't the store's.
@@ -294,24 +338,20 @@ fn listed_target(
     Ok(Some(listed(rt, to, &left)?))
 }
 
-/// The stripes of a store that was listed; it is refused where there are none.
-fn stripes_of(
-    rt: &HostRuntime,
+/// Refuses a store in which there are no stripes, or no names of fragments in any part.
+fn refuse_empty(
+    alloc: Global,
     opening: &Opening<'_>,
-    code: Code,
-    listing: &mut Listing,
-) -> Result<StoreStripes, StoreFault> {
-    let alloc = rt.alloc();
-    let names = mem::replace(&mut listing.names, StripeNames::new(alloc, None));
-    let is_empty = names.is_empty();
-    let found = names.settled(alloc, &opening.pattern, code)?;
-    if is_empty || (opening.part.is_none() && found.files.is_empty()) {
+    found: &StoreStripes,
+    is_empty: bool,
+) -> Result<(), StoreFault> {
+    if opening.needs_stripes && (is_empty || (opening.part.is_none() && found.files.is_empty())) {
         return Err(StoreFault::NoFragments {
             folder: String::from_str(alloc, opening.folder)?,
             names: String::from_str(alloc, opening.names)?,
         });
     }
-    Ok(found)
+    Ok(())
 }
 
 impl OpenStore {
@@ -338,6 +378,7 @@ impl OpenStore {
             tag: "",
             links: opening.links,
             unmounted: self.unmounted.as_slice(),
+            shared: Some(&self.shared),
         }
     }
 }

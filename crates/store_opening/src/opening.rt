@@ -26,6 +26,8 @@ pub struct Opening<'a> {
     pub to: Option<&'a str>,
     pub access: Access,
     pub unmounted: Unmounted,
+    /// Whether a folder is refused that has no stripe.
+    pub needs_stripes: bool,
 }
 
 impl<'a> Opening<'a> {
@@ -51,6 +53,7 @@ impl<'a> Opening<'a> {
             to: None,
             access: Access::Reads,
             unmounted: Unmounted::Named,
+            needs_stripes: true,
         }
     }
 }

@@ -7,7 +7,7 @@ use std::io::{self, ErrorKind};
 use std::os::unix::fs::MetadataExt;
 use store_faults::{StoreFault, device_fault, say, words_of};
 use store_folder::{Found, Links, NO_MEDIUM, Pattern, is_absent, look_at, path_in};
-use store_listing::StoreStripes;
+use store_listing::{StoreStripes, Unlisted};
 use store_names::{disk_folders, folder_in};
 
 /// A folder of a pattern's disks at which no disk is mounted, or of which that can't be seen.
@@ -18,8 +18,8 @@ struct Unseen {
     error: Option<io::Error>,
 }
 
-/// The folders of a pattern's disks that are on the device of the store's own folder, if more of them are on others: no disk is mounted at
-/// these, and what is written there would be on another one. One that can't be looked at may be such a folder.
+/// The folders of a pattern's disks that can't be looked at, and those that are on the device of the store's own folder, if more of them
+/// are on others: no disk is mounted at these, and what is written there would be on another one.
 fn unmounted_folders(
     rt: &HostRuntime,
     folder: &str,
@@ -38,6 +38,7 @@ fn unmounted_folders(
         Err(error) => return Err(device_fault(String::from_str(alloc, folder)?, error)),
     };
     let mut mounted = 0usize;
+    let mut unseen = Vec::new(alloc);
     for name in disks {
         let path = path_in(alloc, folder, name.as_str())?;
         match look_at(rt, path.as_str(), links) {
@@ -50,15 +51,16 @@ fn unmounted_folders(
             }
             Err(error) if !is_absent(error.kind()) => {
                 let error = Some(error);
-                unmounted.push(Unseen { name, error })?;
+                unseen.push(Unseen { name, error })?;
             }
             _ => {}
         }
     }
-    if mounted <= unmounted.len() {
+    if mounted <= unmounted.len().saturating_add(unseen.len()) {
         unmounted.clear();
     }
-    Ok(unmounted)
+    unseen.append(&mut unmounted)?;
+    Ok(unseen)
 }
 
 /// Refuses a store that is to be written into if no disk is mounted at a folder of its pattern, as are at most others, or if one of these
@@ -81,17 +83,27 @@ pub fn refuse_unmounted(
     })
 }
 
-/// The folders at which no disk is mounted and into which nothing is to be written. Those that aren't allowed are named.
+/// The folders into which nothing is to be written, and whether one can't be looked at.
+#[derive(Drop)]
+pub(crate) struct LeftAlone {
+    pub(crate) names: Vec<String>,
+    pub(crate) has_unseen: bool,
+}
+
+/// The folders at which no disk is mounted, or that can't be looked at, and into which nothing is to be written. Those that aren't allowed
+/// are named, unless they couldn't be listed, which is named elsewhere.
 pub(crate) fn left_alone(
     rt: &HostRuntime,
     opening: &Opening<'_>,
     code: Code,
-) -> Result<Vec<String>, StoreFault> {
+    unlisted: &[Unlisted],
+) -> Result<LeftAlone, StoreFault> {
     let alloc = rt.alloc();
     let folder = opening.folder;
     let mut names = Vec::new(alloc);
+    let mut has_unseen = false;
     if opening.unmounted == Unmounted::Allowed {
-        return Ok(names);
+        return Ok(LeftAlone { names, has_unseen });
     }
     let is_left_alone = opening.unmounted == Unmounted::LeftAlone;
     for Unseen { name, error } in unmounted_folders(
@@ -101,6 +113,10 @@ pub(crate) fn left_alone(
         code,
         opening.links,
     )? {
+        if error.is_some() && is_unlisted(unlisted, name.as_str()) {
+            continue;
+        }
+        has_unseen = has_unseen || error.is_some();
         let path = path_in(alloc, folder, name.as_str())?;
         let _ = say(
             rt,
@@ -110,7 +126,15 @@ pub(crate) fn left_alone(
             names.push(name)?;
         }
     }
-    Ok(names)
+    Ok(LeftAlone { names, has_unseen })
+}
+
+/// Whether a folder couldn't be listed, or one that it is in.
+fn is_unlisted(unlisted: &[Unlisted], name: &str) -> bool {
+    unlisted.iter().any(|other| {
+        let rest = name.strip_prefix(other.name.as_str());
+        rest.is_some_and(|rest| rest.is_empty() || rest.starts_with('/'))
+    })
 }
 
 /// What is said of a folder at which no disk is mounted, or that can't be looked at.

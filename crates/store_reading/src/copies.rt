@@ -5,6 +5,7 @@ mod rights;
 
 use folders::{Folder, Rights};
 use looking::Seen;
+use lrc_code::PlaceSet;
 use remaking::described_as;
 use rights::rights_of_files;
 use std::alloc::AllocError;
@@ -34,6 +35,8 @@ pub struct DescribedStripe<'a> {
     pub name: &'a str,
     /// How many bytes each fragment has. To name copies (`CopyWork::Name`) it isn't needed.
     pub length: usize,
+    /// The places of the fragments of which something is said already.
+    pub said: PlaceSet,
 }
 
 /// Looks at the copies of a stripe's description, and makes what is lost of them if that is asked for. If no copy is believed, and they
@@ -53,7 +56,9 @@ pub fn tend_descriptions(
         described: None,
     };
     let believed = match (copies.believed(), &copies.listed) {
-        (None, Some(listed)) if work != CopyWork::Name => described_as(rt, site, stripe, listed)?,
+        (None, Some(listed)) if work != CopyWork::Name => {
+            described_as(rt, site, stripe, listed, &mut done.findings)?
+        }
         (believed, _) => believed,
     };
     done.described = believed;
@@ -147,9 +152,26 @@ impl Tended<'_> {
                 !is_lost,
                 self.like.as_ref(),
             ),
-            CopyWork::Plan { replaces } if is_lost || (replaces && may_replace) => Ok(None),
+            CopyWork::Plan { replaces } if is_lost || (replaces && may_replace) => {
+                refused(rt, self.site, name, !is_lost)
+            }
             _ => Ok(Some(reason)),
         }
+    }
+}
+
+/// Why a copy can't be made, or replaced, if it is known before that is tried.
+fn refused(
+    rt: &HostRuntime,
+    site: &Site<'_>,
+    name: &str,
+    replaces: bool,
+) -> Result<Option<CopyReason>, AllocError> {
+    let is_replaced = replaces && site.target == site.folder;
+    match site.refuse_name(rt.alloc(), name, is_replaced) {
+        Ok(()) => Ok(None),
+        Err(error) if error.kind() == ErrorKind::OutOfMemory => Err(AllocError),
+        Err(error) => Ok(Some(CopyReason::Unwritten(error))),
     }
 }
 
@@ -181,7 +203,8 @@ fn make(
     like: Option<&Rights>,
 ) -> io::Result<Placed> {
     let alloc = rt.alloc();
-    site.refuse_unmounted(name)?;
+    let is_replaced = replaces && site.target == site.folder;
+    site.refuse_name(alloc, name, is_replaced)?;
     refuse_linked_folders(rt, site.target, name, site.links)?;
     let mut path = path_in(alloc, site.target, name)?;
     if site.links == Links::Followed {
@@ -198,7 +221,7 @@ fn make(
         file.discard(rt)?;
         return Err(error);
     }
-    let placed = if replaces && site.target == site.folder {
+    let placed = if is_replaced {
         exchange_new(rt, files, file, path)?
     } else {
         match place_new(files, file, path)? {

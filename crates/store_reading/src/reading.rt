@@ -11,12 +11,12 @@ use output::write_out;
 use std::alloc::{AllocError, Global};
 use store_faults::FileFault;
 use store_files::{
-    Fragments, Missing, Sought, StoredFile, descriptions_for_sure, descriptions_of,
-    first_described, is_whole, open_fragments, set_that_fits, shares_fragment, staged_name,
-    unread_of,
+    Cause, Copies, Fragments, Missing, Refusal, Sought, StoredFile, Tries, copies_of,
+    descriptions_of, first_described, has_enough, open_fragments, set_that_fits, shares_fragment,
+    staged_name, unread_of,
 };
 use store_folder::{Described, SystemFolder};
-use store_repair::lost_places;
+use store_repair::{fragment_length, lost_places};
 
 /// How often a file is read at most that other runs replace meanwhile.
 const MOST_TIMES: usize = 8;
@@ -36,10 +36,27 @@ pub fn read_file(
     file: &StoredFile<'_, '_>,
     output: Option<&str>,
 ) -> Result<(), FileFault> {
-    let output = match output {
-        Some(path) => ReadTo::Path(path),
-        None => ReadTo::StandardOutput,
-    };
+    read_to(
+        rt,
+        file,
+        match output {
+            Some(path) => ReadTo::Path(path),
+            None => ReadTo::StandardOutput,
+        },
+    )
+}
+
+/// Holds a file of a store to its digest, as `read` would give it, and says what was left out.
+pub fn verify_file(rt: &HostRuntime, file: &StoredFile<'_, '_>) -> Result<(), FileFault> {
+    read_to(rt, file, ReadTo::Nothing)
+}
+
+/// Reads a file of a store to an output, if there is to be one.
+fn read_to(
+    rt: &HostRuntime,
+    file: &StoredFile<'_, '_>,
+    output: ReadTo<'_>,
+) -> Result<(), FileFault> {
     let staged = staged_name(rt.alloc(), file.name)?;
     let staged = StoredFile {
         name: staged.as_str(),
@@ -103,42 +120,64 @@ fn read_newest(
     read_fitting(rt, file, output)
 }
 
-/// Whether all of a stripe is there that is to replace a file. If its description can't be read, it counts as not described, unless
-/// fragments of it have names of the file already.
+/// Whether a stripe is there that is to replace a file: it is described, and so many of its fragments are there that they give what is
+/// described. If its description is of another form, it counts as not described, unless fragments of it have names of the file already. If
+/// the system refuses to read it, nothing is known, unless too few fragments are there in any case, or the copy that is made first isn't.
 fn is_newer(
     rt: &HostRuntime,
     staged: &StoredFile<'_, '_>,
     file: &StoredFile<'_, '_>,
 ) -> Result<bool, FileFault> {
-    match descriptions_for_sure(rt, staged) {
-        Ok(said) => is_whole_of(rt, staged, said.as_slice()),
-        Err(fault) if matches!(&fault, FileFault::OutOfMemory) => Err(fault),
-        Err(fault) => {
-            if shares_fragment(rt, staged, file)? {
-                return Err(fault);
-            }
-            Ok(false)
-        }
+    let Copies {
+        said,
+        refused,
+        is_first_absent,
+    } = copies_of(rt, staged)?;
+    if !said.is_empty() {
+        return is_there(rt, staged, said.as_slice());
     }
-}
-
-/// Whether all of a stripe is there by the code of one of its descriptions.
-fn is_whole_of(
-    rt: &HostRuntime,
-    file: &StoredFile<'_, '_>,
-    said: &[Described],
-) -> Result<bool, FileFault> {
-    for described in said {
-        if is_whole(rt, file, described.code)? {
-            return Ok(true);
-        }
+    let Some(Refusal { fault, cause }) = refused else {
+        return Ok(false);
+    };
+    let may_be = match cause {
+        Cause::Odd | Cause::NoFile => false,
+        Cause::Unread => !is_first_absent && may_be_there(rt, staged)?,
+    };
+    if may_be || shares_fragment(rt, staged, file)? {
+        return Err(fault);
     }
     Ok(false)
 }
 
-/// Holds a file of a store to its digest, and says what was left out.
-pub fn verify_file(rt: &HostRuntime, file: &StoredFile<'_, '_>) -> Result<(), FileFault> {
-    read_fitting(rt, file, ReadTo::Nothing)?.map_or(Ok(()), Err)
+/// Whether fragments enough of a stripe are there by one of its descriptions.
+fn is_there(
+    rt: &HostRuntime,
+    file: &StoredFile<'_, '_>,
+    said: &[Described],
+) -> Result<bool, FileFault> {
+    let mut unknown = None;
+    for described in said {
+        let length = fragment_length(described.code, described.length as usize);
+        match has_enough(rt, file, described.code, Some(length as u64)) {
+            Ok(true) => return Ok(true),
+            Ok(false) => {}
+            Err(fault) if matches!(&fault, FileFault::OutOfMemory) => return Err(fault),
+            Err(fault) => unknown = Some(fault),
+        }
+    }
+    unknown.map_or(Ok(false), Err)
+}
+
+/// Whether fragments enough of a stripe may be there that nothing describes.
+fn may_be_there(rt: &HostRuntime, file: &StoredFile<'_, '_>) -> Result<bool, FileFault> {
+    for code in [Code::Narrow, Code::Wide] {
+        match has_enough(rt, file, code, None) {
+            Ok(false) => {}
+            Err(fault) if matches!(&fault, FileFault::OutOfMemory) => return Err(fault),
+            _ => return Ok(true),
+        }
+    }
+    Ok(false)
 }
 
 /// Finds fragments that give a file, and writes it to an output, if there is to be one. Gives why none do, before anything is written.
@@ -161,19 +200,15 @@ fn read_fitting(
         let may_be_read = !are_several
             || described.length > 0
             || are_of_stripe(rt.alloc(), described.code, fragments.set)?;
-        let is_read = may_be_read
-            && match output {
-                ReadTo::Nothing => set_that_fits(rt, &sought, &fragments)?.is_some(),
-                ReadTo::StandardOutput => print_fitting(rt, &sought, &fragments)?,
-                ReadTo::Path(path) => {
-                    write_at(rt, &mut SystemFolder::new(rt), &sought, &fragments, path)?
-                }
-            };
-        if is_read {
+        let mut tries = Tries::new(rt.alloc());
+        if is_given(rt, &sought, &fragments, may_be_read, output, &mut tries)? {
             return Ok(None);
         }
         if unread.is_none() {
-            unread = unread_of(rt, &sought, &fragments)?;
+            unread = unread_of(rt, &sought, fragments, tries)?;
+        } else {
+            drop(fragments);
+            drop(tries);
         }
     }
     if unread.is_some() {
@@ -184,6 +219,36 @@ fn read_fitting(
         "{name}: the fragments that are there don't give the file that {name}.file describes"
     )?;
     Ok(Some(FileFault::Refused { what }))
+}
+
+/// Whether some fragments give a file that may be read, which is then written to an output, if there is to be one.
+fn is_given(
+    rt: &HostRuntime,
+    sought: &Sought<'_, '_>,
+    fragments: &Fragments,
+    may_be_read: bool,
+    output: ReadTo<'_>,
+    tries: &mut Tries,
+) -> Result<bool, FileFault>
+    requires { vec_len fragments.now.opened ≡ 16 }
+{
+    if !may_be_read {
+        return Ok(false);
+    }
+    match output {
+        ReadTo::Nothing => Ok(set_that_fits(rt, sought, fragments, tries)?.is_some()),
+        ReadTo::StandardOutput => print_fitting(rt, sought, fragments, tries),
+        ReadTo::Path(path) => {
+            write_at(
+                rt,
+                &mut SystemFolder::new(rt),
+                sought,
+                fragments,
+                path,
+                tries,
+            )
+        }
+    }
 }
 
 /// Whether the fragments at some places determine all of a stripe.
@@ -197,10 +262,11 @@ fn print_fitting(
     rt: &HostRuntime,
     sought: &Sought<'_, '_>,
     fragments: &Fragments,
+    tries: &mut Tries,
 ) -> Result<bool, FileFault>
     requires { vec_len fragments.now.opened ≡ 16 }
 {
-    match set_that_fits(rt, sought, fragments)? {
+    match set_that_fits(rt, sought, fragments, tries)? {
         Some(set) => {
             write_out(rt, sought, fragments, set)?;
             Ok(true)

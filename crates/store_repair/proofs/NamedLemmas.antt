@@ -7,7 +7,7 @@ use Rattle.std.proofs.lemmas.Bool.{cases_lt, or_parts}
 use Rattle.std.proofs.lemmas.List.{get_or_default}
 use Rattle.std.proofs.lemmas.List.Elements.{Contains-append_left, Contains-append_right, Contains-push}
 use Rattle.lrc_code.specs.declared.places.Place.{Place}
-use Rattle.store_repair.specs.Findings.{AreAllMended, IsMendedBy, differing_by, is_unsettled, named, named_by, said_differing}
+use Rattle.store_repair.specs.Findings.{AreAllMended, IsMendedBy, NamesStay, differing_by, is_unsettled, named, named_by, said_differing}
 use Rattle.store_repair.specs.Findings.{is_without_length, says_no_length, says_unsettled}
 use Rattle.store_repair.specs.Scrubbed.{damaged_by, said_damaged}
 use Rattle.store_repair.specs.declared.outcomes.Finding.{Finding}
@@ -116,6 +116,17 @@ named_more places n old new p e within here is before k d lt = elim (cases_lt k 
       (subst (Contains (named old ++ (p ∷ []))) (sym (ap (λ j. get_or places j d) at ∙ get_or_default places n d e within ∙ here))
       (Contains-push (named old) p)))
 ]
+
+-- the same where the place is named by what was there or by what came
+pub named_kept_more : (places : List Place) (n : ℕ) (old new : List Finding) (p e : Place) → n < length places → get_or places n e ≡ p
+    → Contains (named new) p → NamesStay old new → ((k : ℕ) (d : Place) → k < n → Contains (named old) (get_or places k d))
+    → (k : ℕ) (d : Place) → k < n + 1 → Contains (named new) (get_or places k d)
+named_kept_more places n old new p e within here is stay before k d lt =
+    elim (cases_lt k n) as (λ _. Contains (named new) (get_or places k d)) [
+      | inl less ↦ stay (get_or places k d) (before k d less)
+      | inr le ↦ (let at : k ≡ n = omega (arith, lt, le) in
+          subst (Contains (named new)) (sym (ap (λ j. get_or places j d) at ∙ get_or_default places n d e within ∙ here)) is)
+    ]
 
 -- the same of findings and of what was rebuilt that are known by equations
 pub none_mended : (findings own : List Finding) (rebuilt : List Place) → own ≡ findings → rebuilt ≡ [] → findings ≢ []

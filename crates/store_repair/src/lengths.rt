@@ -12,14 +12,15 @@ ghost use Rattle.store_repair.specs.Scrubbed.{said_damaged};
 ghost use Rattle.stores.specs.Stripes.{has_file};
 
 use crate::consistency::are_consistent;
+use crate::device_faults::note_unread;
 use crate::length_groups::{LengthGroup, Lengths};
 use crate::losses::are_checked;
-use crate::mending::Survivors;
+use crate::mending::{MendFault, Survivors};
 use crate::opening::open_survivors;
 use crate::outcomes::{Finding, Reason, note, note_no_survivor, note_unknown};
 use lrc_code::{Code, Place, PlaceSet};
 use std::alloc::{AllocError, Global};
-use stores::{Found, Store, Stripe, StripeFiles, is_in_common, nth_place};
+use stores::{Found, Refused, Store, Stripe, StripeFiles, is_in_common, nth_place};
 
 /// How many bytes each fragment of a stripe has.
 #[derive(Drop)]
@@ -46,13 +47,15 @@ enum Evidence {
 /// How many bytes each fragment of a stripe has: as many as each of its files, if these have one length; else as many as a file that has
 /// the digest that the store knows of it, if all such files have one length; and if there are none, the length whose fragments have checks
 /// and belong together, if there is only one and no file is longer: the beginnings of a stripe's fragments are those of a stripe too.
-/// Without a digest fragments without bytes prove nothing. Fragments are read only where the lengths differ. No clause says that a length
-/// is known where they do, that a file has its digest (see [`Store::refused`]), or that checks confirm no other.
+/// Without a digest fragments without bytes prove nothing. Fragments are read only where the lengths differ, and those that can't be read
+/// are noted. No clause says that a length is known where they do, that a file has its digest (see [`Store::refused`]), or that checks
+/// confirm no other.
 pub fn stripe_length<S: Store>(
     alloc: Global,
     store: &S,
     code: Code,
     stripe: &Stripe<'_>,
+    unread: &mut Vec<Refused>,
 ) -> Result<StripeLength, AllocError>
     ensures is { IfOk result (IsStripeLength code stripe.now.files.found stripe.now.name.now (S.files store.now)
         (S.listed store.now)) }
@@ -65,7 +68,7 @@ pub fn stripe_length<S: Store>(
     if lengths.groups.is_empty() {
         return Ok(StripeLength::NoFiles);
     }
-    match shown_length(alloc, store, code, stripe, &lengths)? {
+    match shown_length(alloc, store, code, stripe, &lengths, unread)? {
         Some(length) => Ok(StripeLength::Known(length)),
         None => Ok(StripeLength::Undecided(lengths)),
     }
@@ -127,15 +130,41 @@ pub(crate) fn length_or_note<S: Store>(
     ensures none { IfOk result (λ o. IfNone o (is_without_length findings.new.items ≡ true)) }
     ensures several { IfOk result (λ o. IfNone o (HaveNoCommonLength code stripe.now.files.found)) }
 {
-    match stripe_length(alloc, store, code, stripe)? {
-        StripeLength::Known(length) => return Ok(Some(length)),
+    let mut unread = Vec::new(alloc);
+    match stripe_length(alloc, store, code, stripe, &mut unread)? {
+        StripeLength::Known(length) => {
+            note_others(stripe, Some(length), unread, findings)?;
+            return Ok(Some(length));
+        }
         StripeLength::NoFiles => note_no_survivor(code, stripe, findings)?,
         StripeLength::Undecided(lengths) => {
+            note_others(stripe, None, unread, findings)?;
             note(findings, None, Reason::LengthsDiffer(lengths))?;
             note_unknown(code, stripe, findings)?;
         }
     }
     Ok(None)
+}
+
+/// Notes fragments that can't be read, but for those of a length: these are read again.
+fn note_others(
+    stripe: &Stripe<'_>,
+    length: Option<usize>,
+    unread: Vec<Refused>,
+    findings: &mut Vec<Finding>,
+) -> Result<(), AllocError>
+    ensures { OnOk result (said_damaged findings.new.items ≡ said_damaged findings.old.items) }
+{
+    'unread: for Refused { place, error } in &unread {
+        let is_read_again = match length {
+            Some(length) => stripe.files.has(*place, length as u64),
+            None => false,
+        };
+        if !is_read_again {
+            note_unread(findings, Some(*place), *error)?;
+        }
+    }
+    Ok(())
 }
 
 /// The lengths of the files at a code's places, in the order of the first file of each.
@@ -161,6 +190,7 @@ fn shown_length<S: Store>(
     code: Code,
     stripe: &Stripe<'_>,
     lengths: &Lengths,
+    unread: &mut Vec<Refused>,
 ) -> Result<Option<usize>, AllocError>
     ensures { IfOk result (λ o. IfSome o (IsShownLength code stripe.now.files.found stripe.now.name.now (S.files store.now)
         (S.listed store.now))) }
@@ -172,7 +202,7 @@ fn shown_length<S: Store>(
         let Ok(length) = usize::try_from(group.length) else {
             return Ok(None);
         };
-        match evidence_of(alloc, store, code, stripe, length)? {
+        match evidence_of(alloc, store, code, stripe, length, unread)? {
             Evidence::Digest => {
                 if by_digest.is_some() {
                     return Ok(None);
@@ -195,20 +225,23 @@ fn shown_length<S: Store>(
     }
 }
 
-/// What shows that a stripe's fragments have a length. Where a digest does, they aren't held to each other.
+/// What shows that a stripe's fragments have a length. Where a digest does, they aren't held to each other. Those that can't be read are
+/// noted.
 fn evidence_of<S: Store>(
     alloc: Global,
     store: &S,
     code: Code,
     stripe: &Stripe<'_>,
     length: usize,
+    unread: &mut Vec<Refused>,
 ) -> Result<Evidence, AllocError>
     ensures checks { IfOk result (λ it. it ≡ ByChecks → IfSome (S.files store.now) (IsConfirmed code length stripe.now.name.now)) }
     ensures digest { IfOk result (λ it. it ≡ ByDigest → IsDigested code stripe.now.files.found stripe.now.name.now (S.listed store.now)
         length) }
 {
-    let mut noted_later = Vec::new(alloc);
-    let opened = open_survivors(alloc, store, code, stripe, length, &mut noted_later)?;
+    let mut noted = Vec::new(alloc);
+    let opened = open_survivors(alloc, store, code, stripe, length, &mut noted)?;
+    keep_unread(noted.as_slice(), unread)?;
     if has_digest(store, stripe, opened.set)? {
         return Ok(Evidence::Digest);
     }
@@ -223,8 +256,40 @@ fn evidence_of<S: Store>(
     };
     match are_consistent(alloc, &survivors) {
         Ok(true) => Ok(Evidence::Checks),
-        Err(fault) if fault.is_for_memory() => Err(AllocError),
-        _ => Ok(Evidence::Nothing),
+        Ok(false) => Ok(Evidence::Nothing),
+        Err(fault) => {
+            keep_fault(fault, unread)?;
+            Ok(Evidence::Nothing)
+        }
+    }
+}
+
+/// Keeps which fragments can't be read, and why.
+fn keep_unread(noted: &[Finding], unread: &mut Vec<Refused>) -> Result<(), AllocError> {
+    for Finding { place, reason } in noted {
+        if let Reason::Unread(error) = reason {
+            if let Some(place) = place {
+                unread.push(Refused {
+                    place: *place,
+                    error: *error,
+                })?;
+            }
+        }
+    }
+    Ok(())
+}
+
+/// Keeps which fragment can't be read on, if that is a fault. Refused memory is none of a fragment.
+fn keep_fault(fault: MendFault, unread: &mut Vec<Refused>) -> Result<(), AllocError> {
+    match fault {
+        MendFault::OutOfMemory => Err(AllocError),
+        MendFault::Unread { index, error } => {
+            if let Some(place) = Place::from_index(index) {
+                unread.push(Refused { place, error })?;
+            }
+            Ok(())
+        }
+        MendFault::Several { .. } | MendFault::Unwritten { .. } => Ok(()),
     }
 }
 

@@ -21,7 +21,7 @@ use crate::lengths::length_or_note;
 use crate::losses::have_checks;
 use crate::mending::{MendFault, Survivors};
 use crate::opening::open_survivors;
-use crate::outcomes::{Finding, Reason, StripeOutcome, note};
+use crate::outcomes::{Finding, Reason, StripeOutcome, is_named, note};
 use lrc_code::{Code, Place};
 use std::alloc::{AllocError, Global};
 use stores::{Fragment, Store, Stripe};
@@ -72,7 +72,7 @@ pub fn scrub_stripe<S: Store>(
     })
 }
 
-/// Notes the places at which there is no fragment of the stripe's length.
+/// Notes the places at which there is no fragment of the stripe's length, unless it is known that what is there can't be read.
 fn note_lost(
     alloc: Global,
     code: Code,
@@ -86,9 +86,25 @@ fn note_lost(
 {
     let lost = stripe.files.lost(alloc, code, length as u64)?;
     for place in &lost {
-        note(findings, Some(*place), Reason::of(stripe.files.at(*place)))?;
+        note_unnamed(stripe, *place, findings)?;
     }
     Ok(())
+}
+
+/// Notes what is at a place, unless a finding names it already.
+fn note_unnamed(
+    stripe: &Stripe<'_>,
+    place: Place,
+    findings: &mut Vec<Finding>,
+) -> Result<(), AllocError>
+    ensures said { OnOk result (said_damaged findings.new.items ≡ said_damaged findings.old.items) }
+    ensures named { OnOk result (Contains (named findings.new.items) place) }
+    ensures kept { OnOk result (NamesStay findings.old.items findings.new.items) }
+{
+    if is_named(findings.as_slice(), place) {
+        return Ok(());
+    }
+    note(findings, Some(place), Reason::of(stripe.files.at(place)))
 }
 
 /// Tests whether the survivors belong together, if there are checks.

@@ -9,7 +9,7 @@ use std::io::ErrorKind;
 use store_faults::{fragment_name, without_number};
 use store_folder::{Pattern, Site};
 use store_listing::Alone;
-use store_repair::{Finding, Found, Reason, Stripe};
+use store_repair::{Finding, Found, Reason, Refused, Stripe};
 
 /// What is said of a file that is named as a fragment and is of no stripe.
 pub(crate) const ALONE: &str = "is named as a fragment, and of no stripe";
@@ -137,6 +137,22 @@ pub fn unknown_lines(
             let reason = reason_text(alloc, &Reason::of(found))?;
             lines.push(format!(in alloc; "rebuild-store: {name}: {reason}")?)?;
         }
+    }
+    Ok(lines)
+}
+
+/// The lines that say which fragments of a stripe can't be read.
+pub fn unread_lines(
+    alloc: Global,
+    site: &Site<'_>,
+    stripe: &Stripe<'_>,
+    unread: &[Refused],
+) -> Result<Vec<String>, AllocError> {
+    let mut lines = Vec::new(alloc);
+    for Refused { place, error } in unread {
+        let name = file_of(alloc, site, stripe, *place)?;
+        let reason = reason_text(alloc, &Reason::Unread(*error))?;
+        lines.push(format!(in alloc; "rebuild-store: {name}: {reason}")?)?;
     }
     Ok(lines)
 }

@@ -21,8 +21,10 @@ mod totals;
 
 pub use done::Done;
 pub use files::{FileState, ListedFile, file_line};
-pub use findings::{alone_lines, finding_lines, unchecked_lines, unknown_lines, unlisted_lines};
-pub use plans::{without_left, without_repeated};
+pub use findings::{
+    alone_lines, finding_lines, unchecked_lines, unknown_lines, unlisted_lines, unread_lines,
+};
+pub use plans::{without_left, without_refused, without_repeated};
 pub use requests::{header_of, request_lines};
 pub use results::{Contents, Results, RowSource};
 pub use rows::{Rows, add_alone, add_stripe, rows_of};

@@ -3,7 +3,7 @@ ghost use Rattle.std.specs.Prelude.{◌≡◌, ◌+◌, IfOk, vec_len};
 
 use lrc_code::Place;
 use std::alloc::{AllocError, Global};
-use store_folder::Found;
+use store_folder::{Found, Site};
 use store_repair::{Finding, Reason, Repair, Stripe, StripeOutcome, is_covered};
 
 /// A plan without the fragments that a repair would leave, since something is under their names that it wouldn't replace: each of these is
@@ -27,14 +27,56 @@ pub fn without_left(
     let mut rebuilt = Vec::new(alloc);
     'places: for place in &planned {
         let found = stripe.files.at(*place);
+        // A file of the right length that can't be read isn't known to be damaged.
+        let is_other = stripe.files.has_other(*place, length as u64);
         let is_sure = differs(findings.as_slice(), *place)
-            || is_covered(repair.code, survivors, *place);
+            || (is_other && is_covered(repair.code, survivors, *place));
         if is_left(repair, found, is_checked && is_sure) {
             let place = Some(*place);
             let reason = Reason::of(found);
             findings.push(Finding { place, reason })?;
         } else {
             rebuilt.push(*place)?;
+        }
+    }
+    Ok(StripeOutcome {
+        length,
+        survivors,
+        is_checked,
+        rebuilt,
+        findings,
+    })
+}
+
+/// A plan without the fragments that a repair would refuse to put in their places: each of these is a finding instead.
+pub fn without_refused(
+    alloc: Global,
+    repair: &Repair,
+    site: &Site<'_>,
+    stripe: &Stripe<'_>,
+    plan: StripeOutcome,
+) -> Result<StripeOutcome, AllocError>
+    ensures once { IfOk result (λ p. vec_len p.rebuilt + vec_len p.findings ≡ vec_len plan.rebuilt + vec_len plan.findings) }
+{
+    let StripeOutcome {
+        length,
+        survivors,
+        is_checked,
+        rebuilt: planned,
+        findings,
+    } = plan;
+    let mut findings = findings;
+    let mut rebuilt = Vec::new(alloc);
+    'places: for place in &planned {
+        let is_file = matches!(stripe.files.at(*place), Found::File { .. });
+        let is_replaced = is_file && !repair.elsewhere;
+        match site.refusal(alloc, stripe.name, *place, is_replaced)? {
+            Some(error) => {
+                let place = Some(*place);
+                let reason = Reason::Unwritten(error);
+                findings.push(Finding { place, reason })?;
+            }
+            None => rebuilt.push(*place)?,
         }
     }
     Ok(StripeOutcome {

@@ -1,14 +1,14 @@
 //! The command `list`.
 use crate::commands::opening_of;
 use crate::output::{say_all, say_alone};
-use lrc_code::PlaceSet;
+use lrc_code::{Code, PlaceSet};
 use std::alloc::{AllocError, Global};
 use store_arguments::ListOptions;
 use store_faults::{CopyFinding, DEVICE, DONE, FileFault, device, say, write};
-use store_folder::Site;
+use store_folder::{Found, Site};
 use store_opening::{OpenStore, Opening, open_store};
 use store_reading::{CopyWork, DescribedStripe, tend_descriptions};
-use store_repair::{Stripe, fragment_length, lost_places};
+use store_repair::{Stripe, fragment_length, have_checks, lost_places};
 use store_reports::{FileState, ListedFile, Rows, file_line, files_listed, unknown_lines};
 
 /// Says which files are in a store, and gives the exit status.
@@ -73,7 +73,7 @@ fn file_of<'a>(
     let bytes = known.bytes;
     let length = match bytes {
         Some(bytes) => Some(fragment_length(code, bytes as usize) as u64),
-        None => stripe.files.length(),
+        None => length_of(code, stripe),
     };
     let survivors = match length {
         Some(length) => stripe.files.survivors(code, length),
@@ -88,6 +88,26 @@ fn file_of<'a>(
         there: survivors.len(),
         state: FileState::of(lost, are_determined, known.are_whole),
     })
+}
+
+/// How many bytes each fragment of a stripe has that nothing describes, as far as lengths show it: if its files have several, the greatest,
+/// if those of that length have checks. A scrub reads them, which may show another one, or none.
+fn length_of(code: Code, stripe: &Stripe<'_>) -> Option<u64> {
+    if let Some(length) = stripe.files.length() {
+        return Some(length);
+    }
+    let mut greatest = None;
+    for found in &stripe.files.found {
+        if let Found::File { length } = *found {
+            greatest = Some(length.max(greatest.unwrap_or(length)));
+        }
+    }
+    let length = greatest?;
+    if have_checks(code, stripe.files.survivors(code, length)) {
+        Some(length)
+    } else {
+        None
+    }
 }
 
 /// What the descriptions of a stripe say. Those that can't be read are named.
@@ -107,6 +127,7 @@ fn known_of(
     let stripe = DescribedStripe {
         name: stripe.name,
         length: 0,
+        said: PlaceSet::empty(),
     };
     let found = tend_descriptions(rt, site, &stripe, CopyWork::Name)?;
     let is_unread = say_unread(rt, found.findings.as_slice())?;

@@ -3,7 +3,7 @@ ghost use Rattle.std.specs.Prelude.{◌≡◌, ◌<◌, ◌⊎◌, false, true};
 
 use crate::commands::opening_of;
 use crate::output::{say_all, say_alone};
-use lrc_code::Place;
+use lrc_code::{Place, PlaceSet};
 use std::alloc::AllocError;
 use std::io::{self, BufWriter, Write};
 use store_arguments::LostOptions;
@@ -11,8 +11,10 @@ use store_faults::{DEVICE, DONE, FileFault, LEFT, device, say};
 use store_folder::{FolderStore, Site, SystemFolder};
 use store_opening::{OpenStore, Opening, open_store};
 use store_reading::{CopyWork, DescribedStripe, tend_descriptions};
-use store_repair::{Reason, Stripe, StripeLength, stripe_length};
-use store_reports::{Rows, header_of, listed, request_lines, unknown_lines, unlisted_lines};
+use store_repair::{Reason, Refused, Stripe, StripeLength, stripe_length};
+use store_reports::{
+    Rows, header_of, listed, request_lines, unknown_lines, unlisted_lines, unread_lines,
+};
 
 /// What was found of all stripes.
 #[derive(Clone, Copy)]
@@ -107,7 +109,12 @@ fn requests_for<'a>(
     if store.found.described.contains(stripe.name) {
         say_descriptions(rt, site, stripe, counts)?;
     }
-    match length_of(rt, &FolderStore::new(rt, *site), site, stripe)? {
+    let mut unread = Vec::new(rt.alloc());
+    let length = length_of(rt, &FolderStore::new(rt, *site), site, stripe, &mut unread)?;
+    let unread = unread_lines(rt.alloc(), site, stripe, unread.as_slice())?;
+    counts.is_device = counts.is_device || !unread.is_empty();
+    say_all(rt, unread)?;
+    match length {
         Some(length) => requests_of(rt, site, stripe, length, form, counts),
         None => {
             counts.is_left = true;
@@ -180,6 +187,7 @@ fn say_descriptions(
     let described = DescribedStripe {
         name: stripe.name,
         length: 0,
+        said: PlaceSet::empty(),
     };
     let descriptions = tend_descriptions(rt, site, &described, CopyWork::Name)?;
     for finding in &descriptions.findings {
@@ -192,14 +200,15 @@ fn say_descriptions(
 }
 
 /// How many bytes each fragment of a stripe has, 0 where none is there; none where the files' lengths differ and no check says which is
-/// right, which is said.
+/// right, which is said. Those that can't be read to see that are noted.
 fn length_of(
     rt: &HostRuntime,
     files: &FolderStore<'_, SystemFolder<'_>>,
     site: &Site<'_>,
     stripe: &Stripe<'_>,
+    unread: &mut Vec<Refused>,
 ) -> io::Result<Option<u64>> {
-    match stripe_length(rt.alloc(), files, site.code, stripe)? {
+    match stripe_length(rt.alloc(), files, site.code, stripe, unread)? {
         StripeLength::Known(length) => Ok(Some(length as u64)),
         StripeLength::NoFiles => Ok(Some(0)),
         StripeLength::Undecided(lengths) => {

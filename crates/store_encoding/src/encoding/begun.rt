@@ -1,10 +1,11 @@
 //! What a run has left that was to replace a file: whether it is to replace it now, or to go.
 use crate::encoding::lone::is_nothing;
 use crate::refusing::refused;
+use lrc_code::Code;
 use store_faults::FileFault;
 use store_files::{
     StoredFile, descriptions_for_sure, fitting_description, has_fragments_of, is_whole,
-    shares_fragment,
+    shares_fragment_for_sure,
 };
 use store_folder::Described;
 
@@ -12,6 +13,8 @@ use store_folder::Described;
 #[derive(Clone, Copy)]
 pub(crate) struct Begun<'a, 'p> {
     pub(crate) file: StoredFile<'a, 'p>,
+    /// Its own code, as far as that is known before its fragments are read.
+    pub(crate) code: Code,
     /// Whether this run has made it, and so knows what its fragments have.
     pub(crate) is_new: bool,
 }
@@ -95,7 +98,7 @@ fn is_half_given(
     name: &str,
 ) -> Result<bool, FileFault> {
     let file = StoredFile { name, ..*staged };
-    if !shares_fragment(rt, staged, &file)? {
+    if !shares_fragment_for_sure(rt, staged, &file)? {
         return Ok(false);
     }
     if !has_fragments_of(rt, staged, &file)? {

@@ -95,7 +95,7 @@ pub(crate) fn discard_made(
 }
 
 /// Removes a new file.
-fn discard_file(rt: &HostRuntime, file: NewFile) -> Result<(), FileFault> {
+pub(crate) fn discard_file(rt: &HostRuntime, file: NewFile) -> Result<(), FileFault> {
     let path = String::from_str(rt.alloc(), file.path());
     match file.discard(rt) {
         Ok(()) => {

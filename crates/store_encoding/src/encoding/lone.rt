@@ -16,12 +16,10 @@ pub(crate) fn is_nothing(
     name: &str,
     said: &[Described],
 ) -> Result<bool, FileFault> {
-    if may_have_some(rt, staged, Code::Narrow)? || may_have_some(rt, staged, Code::Wide)? {
-        return Ok(false);
-    }
     let file = StoredFile { name, ..*staged };
     for described in said {
-        if may_come_back(rt, staged, &file, described.code)? {
+        let code = described.code;
+        if has_some(rt, staged, code, code.places())? || may_come_back(rt, staged, &file, code)? {
             return Ok(false);
         }
     }
@@ -41,19 +39,6 @@ fn may_come_back(
     Ok(lost.several.is_empty())
 }
 
-/// Whether there is a fragment of a stripe, or what can't be looked at.
-fn may_have_some(
-    rt: &HostRuntime,
-    file: &StoredFile<'_, '_>,
-    code: Code,
-) -> Result<bool, FileFault> {
-    match has_some(rt, file, code, code.places()) {
-        Err(fault) if matches!(&fault, FileFault::OutOfMemory) => Err(fault),
-        Err(_fault) => Ok(true),
-        Ok(has) => Ok(has),
-    }
-}
-
 /// The places whose disks may be away: in their folders is neither a fragment of the file nor a description of what was to replace it.
 fn may_be_away(
     rt: &HostRuntime,
@@ -63,24 +48,15 @@ fn may_be_away(
 ) -> Result<PlaceSet, FileFault> {
     let mut away = PlaceSet::empty();
     for place in code.places() {
-        if !has_fragment(rt, file, code, *place)? && !is_described_at(rt, staged, code, *place)? {
+        let has_fragment = has_some(rt, file, code, slice::from_ref(place))?;
+        if !has_fragment && !is_described_at(rt, staged, code, *place)? {
             away = away.with(*place);
         }
     }
     Ok(away)
 }
 
-/// Whether there is a fragment of a stripe at a place. What can't be looked at counts as not there.
-fn has_fragment(
-    rt: &HostRuntime,
-    file: &StoredFile<'_, '_>,
-    code: Code,
-    place: Place,
-) -> Result<bool, FileFault> {
-    known(has_some(rt, file, code, slice::from_ref(&place)))
-}
-
-/// Whether a description of a stripe is in the folder of its fragment at a place. What can't be looked at counts as not there.
+/// Whether a description of a stripe is in the folder of its fragment at a place.
 fn is_described_at(
     rt: &HostRuntime,
     file: &StoredFile<'_, '_>,
@@ -92,19 +68,10 @@ fn is_described_at(
     for copy in description_names(alloc, &file.pattern, code, file.name)? {
         if folder_in(copy.as_str()) == folder_in(fragment.as_str()) {
             let path = path_in(alloc, file.folder, copy.as_str())?;
-            if known(is_there(rt, path.as_str()))? {
+            if is_there(rt, path.as_str())? {
                 return Ok(true);
             }
         }
     }
     Ok(false)
-}
-
-/// Whether something is there, where what can't be looked at counts as not there.
-fn known(there: Result<bool, FileFault>) -> Result<bool, FileFault> {
-    match there {
-        Err(fault) if matches!(&fault, FileFault::OutOfMemory) => Err(fault),
-        Err(_fault) => Ok(false),
-        Ok(is_there) => Ok(is_there),
-    }
 }

@@ -1,12 +1,13 @@
 //! Copies that are lost of the description of a stripe which is to replace another one, or were never written.
 use crate::encoding::descriptions::digest_of_text;
+use crate::encoding::failures::go_on_after;
 use crate::encoding::placing::{Made, place_one, sync_names};
 use crate::encoding::stripe_files::StripeFiles;
 use crate::removing::has_any;
 use folders::Rights;
 use std::io::{self, ErrorKind};
 use std::slice;
-use store_faults::{FileFault, device, say};
+use store_faults::{FileFault, device};
 use store_files::Target;
 use store_folder::{
     Described, NewFile, SystemFolder, Touched, create_private, folder_of, is_absent, look_at,
@@ -118,7 +119,7 @@ fn lost_copies(
 }
 
 /// Writes a copy that is lost, if its folder has fragments of the stripe, since the disk may be away of one that has none. Where it can't
-/// be written, as on a full disk, that is said. Gives whether it was.
+/// be written, as on a full disk, that is said and noted. Gives whether it was.
 fn is_written(
     rt: &HostRuntime,
     target: &mut Target<'_>,
@@ -130,18 +131,17 @@ fn is_written(
     }
     match write(rt, target, copy) {
         Ok(()) => Ok(true),
-        Err(fault) if matches!(&fault, FileFault::OutOfMemory) => Err(fault),
         Err(fault) => {
-            let _ = say(rt, format!(in rt.alloc(); "rebuild-store: {fault}"));
+            go_on_after(rt, target, fault)?;
             Ok(false)
         }
     }
 }
 
-/// Whether a fragment of a stripe is in the folder of a name. What can't be looked at counts as not there.
+/// Whether a fragment of a stripe is in the folder of a name. What can't be looked at counts as not there, which is said and noted.
 fn is_beside_some(
     rt: &HostRuntime,
-    target: &Target<'_>,
+    target: &mut Target<'_>,
     name: &str,
     stripe: &StripeFiles,
 ) -> Result<bool, FileFault> {
@@ -154,10 +154,12 @@ fn is_beside_some(
 }
 
 /// Whether something is known to be under a name.
-fn is_known(rt: &HostRuntime, target: &Target<'_>, name: &String) -> Result<bool, FileFault> {
+fn is_known(rt: &HostRuntime, target: &mut Target<'_>, name: &String) -> Result<bool, FileFault> {
     match has_any(rt, target, slice::from_ref(name)) {
-        Err(fault) if matches!(&fault, FileFault::OutOfMemory) => Err(fault),
-        Err(_fault) => Ok(false),
+        Err(fault) => {
+            go_on_after(rt, target, fault)?;
+            Ok(false)
+        }
         Ok(has) => Ok(has),
     }
 }

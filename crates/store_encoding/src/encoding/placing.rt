@@ -9,10 +9,12 @@ ghost use Rattle.store_encoding.specs.Encoded.{AreDone, AreThere, GivesEach, IsD
 use crate::encoding::failures::after_discarding;
 use crate::refusing::refused;
 use folders::{Folder, SystemNew};
-use std::io::{self, ErrorKind};
+use std::io;
 use store_faults::{FileFault, device, say};
-use store_files::{Target, digest_at, is_there};
-use store_folder::{Digest, Links, NewFile, Placed, Touched, discard_new, folder_of, place_new};
+use store_files::{Target, digest_at, is_lost, is_there};
+use store_folder::{
+    Digest, Links, NewFile, Placed, Touched, discard_new, folder_of, is_absent, place_new,
+};
 use store_progress::Progress;
 use store_repair::NameFault;
 
@@ -31,6 +33,8 @@ pub(crate) struct Made<N: folders::NewFile = SystemNew> {
 enum There {
     Nothing,
     TheSame,
+    /// A link that is followed leads to nothing.
+    LinkToNothing,
     Another,
 }
 
@@ -38,6 +42,13 @@ enum There {
 pub(crate) fn is_there_already(rt: &HostRuntime, name: &str) -> FileFault {
     refused(format!(in rt.alloc();
         "{name}: is there already, with other bytes: --replace replaces the file"
+    ))
+}
+
+/// That a name of the store is that of a link which leads to nothing.
+fn leads_to_nothing(rt: &HostRuntime, name: &str) -> FileFault {
+    refused(format!(in rt.alloc();
+        "{name}: is a link to nothing, and nothing is encoded where it leads"
     ))
 }
 
@@ -60,7 +71,7 @@ fn discard_all<F: Folder>(
     }
 }
 
-/// What is under the name at a path, beside a file of a length and a digest.
+/// What is under the name at a path, beside a file of a length and a digest. What can't be read may be the same.
 fn what_is_there(
     rt: &HostRuntime,
     path: &str,
@@ -73,7 +84,8 @@ fn what_is_there(
     }
     match digest_at(rt, path, length, links) {
         Ok(found) if found == *digest => Ok(There::TheSame),
-        Err(error) if error.kind() == ErrorKind::OutOfMemory => Err(FileFault::OutOfMemory),
+        Err(error) if is_absent(error.kind()) => Ok(There::LinkToNothing),
+        Err(error) if !is_lost(error.kind()) => Err(device(rt.alloc(), path, error)),
         _ => Ok(There::Another),
     }
 }
@@ -96,10 +108,9 @@ pub(crate) fn place_fragments<F: Folder>(
 {
     match first_taken(rt, target, names, length, made.as_slice()) {
         Ok(None) => place_each(rt, files, target, progress, names, length, made),
-        Ok(Some(name)) => {
+        Ok(Some(taken)) => {
             let removed = discard_all(rt, files, target.folder, made);
-            let fault = is_there_already(rt, name);
-            Err(after_discarding(rt, progress, fault, removed))
+            Err(after_discarding(rt, progress, taken, removed))
         }
         Err(fault) => Err(after_discarding(
             rt,
@@ -209,20 +220,22 @@ fn unsynced(rt: &HostRuntime, fault: NameFault) -> FileFault {
     device(rt.alloc(), name.as_str(), error)
 }
 
-/// The first of the names under which there is another file than the one at its index.
-fn first_taken<'n, N: folders::NewFile>(
+/// That the first of the names is taken under which there is another file than the one at its index.
+fn first_taken<N: folders::NewFile>(
     rt: &HostRuntime,
     target: &Target<'_>,
-    names: &'n [String],
+    names: &[String],
     length: usize,
     made: &[Made<N>],
-) -> Result<Option<&'n str>, FileFault> {
+) -> Result<Option<FileFault>, FileFault> {
     for (name, made_file) in names.iter().zip(made.iter()) {
         let path = target.path(rt.alloc(), name.as_str())?;
         let digest = made_file.digest;
         let there = what_is_there(rt, path.as_str(), length as u64, &digest, target.links)?;
-        if matches!(there, There::Another) {
-            return Ok(Some(name.as_str()));
+        match there {
+            There::Nothing | There::TheSame => {}
+            There::LinkToNothing => return Ok(Some(leads_to_nothing(rt, name.as_str()))),
+            There::Another => return Ok(Some(is_there_already(rt, name.as_str()))),
         }
     }
     Ok(None)

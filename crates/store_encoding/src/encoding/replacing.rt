@@ -9,24 +9,24 @@ ghost use Rattle.store_encoding.specs.Digests.{KeepsBeside, KeepsBut, KeepsDiges
 ghost use Rattle.store_encoding.specs.Names.{AreApart, CanGive, IsPairOf, Replaces, path_of};
 ghost use Rattle.store_encoding.specs.Replaced.{AllGot, GivesOnly, Goes, IsGivenTo, ReplacesFile};
 
-use crate::encoding::begun::{Begun, to_replace};
+use crate::encoding::begun::Begun;
 use crate::encoding::discarding::discard_staged;
-use crate::encoding::failures::after_discarding;
-use crate::encoding::lost_descriptions::mend_descriptions;
+use crate::encoding::failures::{after_another, after_discarding, go_on_after};
+use crate::encoding::readying::{add_own_description, beyond_of, read_begun, readied};
 use crate::encoding::source::no_name;
-use crate::encoding::stripe_files::{StripeFiles, are_apart, refuse_irregular};
+use crate::encoding::stripe_files::{StripeFiles, are_apart};
 use crate::encoding::subfolders::make_own_folders;
 use crate::encoding::sums::{forget_digests, has_digest, write_new_sums};
 use crate::encoding::{Given, encode_as};
-use crate::own_folders::{has_folders, remove_own_folders};
+use crate::own_code::OwnStripe;
+use crate::own_folders::{has_own_folders, remove_own_folders};
 use crate::removing::{has_any, remove_names};
 use folders::Folder;
-use lrc_code::Code;
 use std::slice;
 use std::thread::Threads;
-use store_faults::{FileFault, StoreFault, device};
-use store_files::{StoredFile, Target, has_some, own_description, refuse_linked, staged_name};
-use store_folder::{SystemFolder, description_names, first_description_name, give_name};
+use store_faults::{FileFault, device};
+use store_files::{StoredFile, Target, has_some, staged_name};
+use store_folder::{SystemFolder, description_names, give_name};
 
 /// Replaces the file of a name.
 pub(crate) fn replace<R: Threads + Sync>(
@@ -38,16 +38,26 @@ pub(crate) fn replace<R: Threads + Sync>(
 ) -> Result<(), FileFault> {
     let staged = staged_name(rt.alloc(), name)?;
     let staged = staged.as_str();
-    let had_folders = has_folders(rt, target, staged)?;
+    let had_folders = has_own_folders(rt, target, target.code, staged, name)?;
     if let Err(fault) = encode_staged(threads, rt, target, name, staged, given) {
         // All of it is of this run, and none replaces the file, whose encoding failed.
         let discarded = discard_staged(rt, target, staged);
-        if !had_folders {
-            drop(remove_own_folders(rt, target, staged, name));
+        let fault = after_discarding(rt, given.progress, fault, discarded);
+        if had_folders {
+            return Err(fault);
         }
-        return Err(after_discarding(rt, given.progress, fault, discarded));
+        let removed = remove_own_folders(rt, target, target.code, staged, name);
+        let Err(other) = removed else {
+            return Err(fault);
+        };
+        return Err(after_another(rt, Some(given.progress), Some(fault), other));
     }
-    finish_staged(rt, target, name, staged, true)
+    let begun = OwnStripe {
+        name: staged,
+        code: target.code,
+        folders: target.code,
+    };
+    finish_staged(rt, target, name, &begun, true)
 }
 
 /// Encodes a file as a stripe that is to replace another one, of this name, in folders that are made for it.
@@ -73,35 +83,50 @@ pub(crate) fn finish_replacing(
     name: &str,
 ) -> Result<(), FileFault> {
     let staged = staged_name(rt.alloc(), name)?;
-    finish_staged(rt, target, name, staged.as_str(), false)
+    let begun = OwnStripe::of(rt, target, staged.as_str())?;
+    finish_staged(rt, target, name, &begun, false)
 }
 
-/// The same of the stripe that was to replace it, by the name of that, whether this run has made it or another.
+/// The same of the stripe that was to replace it, whether this run has made it or another.
 fn finish_staged(
     rt: &HostRuntime,
     target: &mut Target<'_>,
     name: &str,
-    staged: &str,
+    own: &OwnStripe<'_>,
     is_new: bool,
 ) -> Result<(), FileFault> {
     let file = StoredFile {
         folder: target.folder,
         pattern: target.pattern,
-        name: staged,
+        name: own.name,
         links: target.links,
         progress: None,
     };
-    let places = target.code.places();
-    if has_some(rt, &file, target.code, places)? || has_description(rt, target, staged)? {
-        replace_files(rt, target, &Begun { file, is_new }, name)?;
-        remove_own_folders(rt, target, staged, name)?;
+    let begun = Begun {
+        file,
+        is_new,
+        code: own.code,
+    };
+    let has_begun = has_some(rt, &file, own.code, own.code.places())?
+        || has_description(rt, target, &begun)?;
+    if !has_begun {
+        return Ok(());
     }
-    Ok(())
+    replace_files(rt, target, &begun, name)?;
+    match remove_own_folders(rt, target, own.folders, own.name, name) {
+        Ok(()) => Ok(()),
+        Err(fault) => go_on_after(rt, target, fault),
+    }
 }
 
-/// Whether something has the name of a description of a stripe.
-fn has_description(rt: &HostRuntime, target: &Target<'_>, name: &str) -> Result<bool, FileFault> {
-    let names = description_names(rt.alloc(), &target.pattern, target.code, name)?;
+/// Whether something has the name of a description of what was begun.
+fn has_description(
+    rt: &HostRuntime,
+    target: &Target<'_>,
+    begun: &Begun<'_, '_>,
+) -> Result<bool, FileFault> {
+    let name = begun.file.name;
+    let names = description_names(rt.alloc(), &target.pattern, begun.code, name)?;
     has_any(rt, target, names.as_slice())
 }
 
@@ -112,88 +137,60 @@ fn replace_files(
     begun: &Begun<'_, '_>,
     name: &str,
 ) -> Result<(), FileFault> {
-    let alloc = rt.alloc();
-    let staged = begun.file.name;
-    let mut files = StripeFiles::of(alloc, target, staged)?;
-    let mut replaced = StripeFiles::of(alloc, target, name)?;
-    match readied(rt, target, begun, name, &mut files, &mut replaced) {
-        Ok(is_whole) => replace_begun(rt, target, name, &files, &replaced, is_whole),
+    let described = read_begun(rt, target, begun, name)?;
+    let code = described
+        .as_ref()
+        .map_or(begun.code, |described| described.code);
+    let mut files = StripeFiles::by(rt.alloc(), target, code, begun.file.name)?;
+    let mut replaced = StripeFiles::by(rt.alloc(), target, code, name)?;
+    let beyond = beyond_of(rt, target, name, described.as_ref())?;
+    add_own_description(rt, target, begun.file.name, name, &mut files, &mut replaced)?;
+    match readied(
+        rt,
+        target,
+        name,
+        described.as_ref(),
+        &mut files,
+        &mut replaced,
+        &beyond,
+    ) {
+        Ok(()) => replace_begun(
+            rt,
+            target,
+            name,
+            &files,
+            &replaced,
+            &beyond,
+            described.is_some(),
+        ),
         Err(fault) => Err(fault),
     }
 }
 
-/// Whether the files of a stripe that has been begun are to replace those of another one. Then each has its description beside it, as far
-/// as that can be, and the names are added of what goes with the old ones.
-fn readied(
-    rt: &HostRuntime,
-    target: &mut Target<'_>,
-    begun: &Begun<'_, '_>,
-    name: &str,
-    files: &mut StripeFiles,
-    replaced: &mut StripeFiles,
-) -> Result<bool, FileFault> {
-    add_own_description(rt, target, begun.file.name, name, files, replaced)?;
-    refuse_linked(rt, target, files.descriptions.as_slice())?;
-    refuse_linked(rt, target, files.fragments.as_slice())?;
-    if !are_apart(target.folder, files, replaced) {
-        return Err(no_name(rt, name));
-    }
-    let Some(described) = to_replace(rt, begun, name)? else {
-        return Ok(false);
-    };
-    refuse_wider(rt, target, described.code)?;
-    // Among those to be replaced may be an old description as a fragment: here each is what its name says.
-    refuse_irregular(rt, target, &StripeFiles::of(rt.alloc(), target, name)?)?;
-    mend_descriptions(rt, target, &described, files, replaced)?;
-    Ok(true)
-}
-
-/// Refuses to replace a file by a stripe of a code that has more fragments: those beyond the places of the store's code would get no names.
-fn refuse_wider(rt: &HostRuntime, target: &Target<'_>, code: Code) -> Result<(), FileFault> {
-    if code.data_count() <= target.code.data_count() {
-        return Ok(());
-    }
-    Err(FileFault::Store {
-        fault: StoreFault::OtherCode {
-            folder: String::from_str(rt.alloc(), target.folder)?,
-            other: code.text(),
-        },
-    })
-}
-
-/// Adds the name of the description of a stripe in the store's own folder, if it has one, and beside it that of the stripe which is to
-/// replace it.
-fn add_own_description(
-    rt: &HostRuntime,
-    target: &Target<'_>,
-    staged: &str,
-    name: &str,
-    begun: &mut StripeFiles,
-    replaced: &mut StripeFiles,
-) -> Result<(), FileFault> {
-    if let Some(own) = own_description(rt, target, name)? {
-        // Nothing has the other name, so that it goes as an old fragment does whose new one was lost.
-        replaced.fragments.push(own)?;
-        let other = first_description_name(rt.alloc(), staged)?;
-        begun.fragments.push(other)?;
-    }
-    Ok(())
-}
-
-/// Gives the files of a stripe that has been begun the names of those that it is to replace, if they are whole, and else removes them.
+/// Gives the files of a stripe that has been begun the names of those that it is to replace, if they are whole, and else removes them. What
+/// the old file has beyond these goes before, while its own description says that it is its.
 fn replace_begun(
     rt: &HostRuntime,
     target: &mut Target<'_>,
     name: &str,
     files: &StripeFiles,
     replaced: &StripeFiles,
+    beyond: &StripeFiles,
     is_whole: bool,
 ) -> Result<(), FileFault> {
+    if !are_apart(target.folder, files, beyond) {
+        return Err(no_name(rt, name));
+    }
+    let system = &mut SystemFolder::new(rt);
+    if !beyond.is_none() {
+        remove_all(rt, system, target, beyond)?;
+        // Once the new description is there, nothing says any more that these digests are the file's.
+        write_new_sums(rt, system, target)?;
+    }
     // Names were added since.
     if !are_apart(target.folder, files, replaced) {
         return Err(no_name(rt, name));
     }
-    let system = &mut SystemFolder::new(rt);
     end(rt, system, target, files, replaced, is_whole)
 }
 

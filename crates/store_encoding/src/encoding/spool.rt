@@ -1,9 +1,12 @@
 //! Standard input, kept in a file of the store's folder while it is encoded, since that takes its length first.
+use crate::encoding::discarding::discard_file;
+use crate::encoding::failures::{after_discarding, go_on_after};
 use std::alloc::Global;
 use std::io::{self, ErrorKind, Read};
 use store_faults::{FileFault, device};
+use store_files::Target;
 use store_folder::{NewFile, SystemFolder, create_private};
-use store_progress::{most_file_bytes, too_long};
+use store_progress::{Progress, most_file_bytes, too_long};
 use store_repair::NewFragment;
 
 /// How many bytes are read at once.
@@ -17,7 +20,7 @@ pub struct Spool {
 
 impl Spool {
     /// Writes standard input to a new file in a folder, which nobody but its user may read.
-    pub fn fill(rt: &HostRuntime, folder: &str) -> Result<Spool, FileFault> {
+    pub fn fill(rt: &HostRuntime, folder: &str, progress: &Progress) -> Result<Spool, FileFault> {
         let alloc = rt.alloc();
         let mut file = match create_private(rt, &mut SystemFolder::new(rt), folder) {
             Ok(file) => file,
@@ -26,8 +29,8 @@ impl Spool {
         match copy(rt, &mut file, folder) {
             Ok(()) => Ok(Spool { file }),
             Err(fault) => {
-                let _ = file.discard(rt);
-                Err(fault)
+                let removed = discard_file(rt, file);
+                Err(after_discarding(rt, progress, fault, removed))
             }
         }
     }
@@ -37,11 +40,24 @@ impl Spool {
         self.file.path()
     }
 
-    /// Removes the file.
-    pub fn remove(self, rt: &HostRuntime, folder: &str) -> Result<(), FileFault> {
-        match self.file.discard(rt) {
+    /// Removes the file, of which this came. If it can't be removed, that is said and noted, or given if it is graver.
+    pub fn remove(
+        self,
+        rt: &HostRuntime,
+        target: &mut Target<'_>,
+        progress: &Progress,
+        encoded: Result<(), FileFault>,
+    ) -> Result<(), FileFault> {
+        let removed = discard_file(rt, self.file);
+        if let Err(fault) = encoded {
+            return Err(after_discarding(rt, progress, fault, removed));
+        }
+        match removed {
             Ok(()) => Ok(()),
-            Err(error) => Err(device(rt.alloc(), folder, error)),
+            Err(fault) => {
+                progress.clear(rt);
+                go_on_after(rt, target, fault)
+            }
         }
     }
 }

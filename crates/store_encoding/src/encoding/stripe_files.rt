@@ -7,10 +7,11 @@ ghost use Rattle.store_encoding.specs.Names.{AreApart};
 ghost use Rattle.store_encoding.specs.Own.{has, is_own, shares_none};
 
 use crate::refusing::refused;
+use lrc_code::Code;
 use std::alloc::{AllocError, Global};
 use std::fs;
 use std::io::ErrorKind;
-use store_faults::{FileFault, device};
+use store_faults::{FileFault, device, fragment_name};
 use store_files::{Target, refuse_linked};
 use store_folder::{MOST_BYTES, SUMS_NAME, description_names, is_absent};
 use store_names::is_free;
@@ -37,9 +38,36 @@ impl StripeFiles {
         target: &Target<'_>,
         stripe: &str,
     ) -> Result<StripeFiles, AllocError> {
+        StripeFiles::by(alloc, target, target.code, stripe)
+    }
+
+    /// No names.
+    pub(crate) fn none(alloc: Global) -> StripeFiles {
+        StripeFiles {
+            fragments: Vec::new(alloc),
+            descriptions: Vec::new(alloc),
+        }
+    }
+
+    /// Whether there is no name.
+    pub(crate) fn is_none(&self) -> bool {
+        self.fragments.is_empty() && self.descriptions.is_empty()
+    }
+
+    /// Those of a stripe of this code.
+    pub(crate) fn by(
+        alloc: Global,
+        target: &Target<'_>,
+        code: Code,
+        stripe: &str,
+    ) -> Result<StripeFiles, AllocError> {
+        let mut fragments = Vec::with_capacity(alloc, code.places().len())?;
+        for place in code.places() {
+            fragments.push(fragment_name(alloc, &target.pattern, code, stripe, *place)?)?;
+        }
         Ok(StripeFiles {
-            descriptions: description_names(alloc, &target.pattern, target.code, stripe)?,
-            fragments: target.names(alloc, stripe)?,
+            descriptions: description_names(alloc, &target.pattern, code, stripe)?,
+            fragments,
         })
     }
 }
@@ -54,7 +82,7 @@ pub(crate) fn refuse_long(
     refuse_long_names(rt, target, files.descriptions.as_slice())
 }
 
-/// Refuses names of which one is longer than its folder takes.
+/// Refuses names of which one is longer than its folder takes, or can't be looked at.
 fn refuse_long_names(
     rt: &HostRuntime,
     target: &Target<'_>,
@@ -64,13 +92,10 @@ fn refuse_long_names(
     for name in names {
         let path = target.path(alloc, name.as_str())?;
         match fs::symlink_metadata(rt, path.as_str()) {
-            Err(error)
-                if matches!(
-                    error.kind(),
-                    ErrorKind::InvalidFilename | ErrorKind::OutOfMemory
-                ) => {
-                return Err(device(alloc, path.as_str(), error));
-            }
+            Err(error) if !matches!(error.kind(), ErrorKind::NotFound | ErrorKind::NotADirectory) =>
+                {
+                    return Err(device(alloc, path.as_str(), error));
+                }
             _ => {}
         }
     }

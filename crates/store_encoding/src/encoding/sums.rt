@@ -10,8 +10,8 @@ use crate::refusing::refused;
 use folders::Folder;
 use std::alloc::Global;
 use std::io::{self, ErrorKind};
-use store_faults::{FileFault, device};
-use store_files::{Target, digest_at};
+use store_faults::{FileFault, device, say};
+use store_files::{Target, digest_at, is_lost};
 use store_folder::{
     Digest, Links, SUMS_NAME, Sums, SumsFault, look_at, path_in, read_sums, write_over,
 };
@@ -47,7 +47,7 @@ pub(crate) fn forget_digests(target: &mut Target<'_>, names: &[String])
     }
 }
 
-/// Whether the file of a name has a digest. Of one that can't be read nothing is known.
+/// Whether the file of a name has a digest. Of one that can't be read nothing is known, which is said, as it is where it is left out.
 pub(crate) fn has_digest(
     rt: &HostRuntime,
     target: &Target<'_>,
@@ -55,11 +55,20 @@ pub(crate) fn has_digest(
     digest: &Digest,
 ) -> Result<bool, FileFault> {
     let path = target.path(rt.alloc(), name)?;
-    match digest_of_file(rt, path.as_str(), target.links) {
-        Ok(found) => Ok(found == *digest),
-        Err(error) if error.kind() == ErrorKind::OutOfMemory => Err(FileFault::OutOfMemory),
-        Err(_) => Ok(false),
+    let error = match digest_of_file(rt, path.as_str(), target.links) {
+        Ok(found) => return Ok(found == *digest),
+        Err(error) => error,
+    };
+    if is_lost(error.kind()) {
+        return Ok(false);
     }
+    let fault = device(rt.alloc(), path.as_str(), error);
+    if matches!(&fault, FileFault::OutOfMemory) {
+        return Err(fault);
+    }
+    let _ = say(rt, format!(in rt.alloc(); "rebuild-store: {fault}"));
+    drop(fault);
+    Ok(false)
 }
 
 /// The digest of the regular file at a path.

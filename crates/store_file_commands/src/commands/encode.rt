@@ -1,14 +1,16 @@
 //! The command `encode`.
 use crate::tally::{Tally, released, write_line};
 use lrc_code::Code;
+use std::alloc::AllocError;
 use std::fs;
+use std::io::ErrorKind;
 use std::thread::Threads;
 use store_arguments::EncodeOptions;
 use store_encoding::{SourceFile, Spool, encode_file, make_folder, stored_sums, write_new_sums};
-use store_faults::{FileFault, StoreFault, device};
+use store_faults::{FileFault, StoreFault, device, say, words_of};
 use store_files::Target;
 use store_folder::{SystemFolder, folder_of, sync_folder};
-use store_listing::{Listing, Others, Wanted, list, other_than};
+use store_listing::{Listing, Others, Unlisted, Wanted, list, other_than};
 use store_opening::{Locks, refuse_unmounted, refuse_untrusted, remove_leftovers, say_links};
 use store_progress::{Operation, Progress, Task};
 use store_reports::encoded;
@@ -22,7 +24,7 @@ pub fn encode<R: Threads + Sync>(
     make_store(rt, options.folder)?;
     let locks = Locks::take(rt, options.folder, None)?;
     let status = encode_locked(threads, rt, options, &locks);
-    released(rt, options.folder, status, locks.release(rt))
+    released(rt, locks.named(options.folder), status, locks.release(rt))
 }
 
 /// Encodes files into a folder out of which other runs are kept.
@@ -67,10 +69,30 @@ fn readied<'o>(
     match remove_leftovers(rt, locks, listing, "") {
         Ok(is_clean) => Ok(Ready {
             target: target_of(rt, options, listing)?,
-            is_clean,
+            is_clean: !say_unlisted(rt, listing)? && is_clean,
         }),
         Err(error) => Err(device(rt.alloc(), options.folder, error)),
     }
+}
+
+/// Says which folders that are there couldn't be listed, and whether there is one.
+fn say_unlisted(rt: &HostRuntime, listing: &Listing) -> Result<bool, AllocError> {
+    let mut has_some = false;
+    for Unlisted { path, error, .. } in &listing.unlisted {
+        let kind = error.kind();
+        if kind == ErrorKind::NotFound || kind == ErrorKind::NotADirectory {
+            continue;
+        }
+        has_some = true;
+        let why = words_of(rt.alloc(), error)?;
+        let _ = say(
+            rt,
+            format!(in rt.alloc();
+                "rebuild-store: {path}: {why}: what runs that were killed have left there stays"
+            ),
+        );
+    }
+    Ok(has_some)
 }
 
 /// The work on the files, each of which is digested and then encoded.
@@ -108,6 +130,9 @@ fn encode_all<R: Threads + Sync>(
         progress.count_file(rt, length_of(rt, path));
     }
     progress.clear(rt);
+    if target.has_failed {
+        done.fail();
+    }
     write_new_sums(rt, &mut SystemFolder::new(rt), target)?;
     Ok(done)
 }
@@ -130,16 +155,14 @@ fn encode_one<R: Threads + Sync>(
         };
         return encode_file(threads, rt, target, &source);
     }
-    let spool = Spool::fill(rt, target.folder)?;
+    let spool = Spool::fill(rt, target.folder, progress)?;
     let source = SourceFile {
         path: spool.path(),
         name,
         progress,
     };
     let encoded = encode_file(threads, rt, target, &source);
-    let removed = spool.remove(rt, target.folder);
-    encoded?;
-    removed
+    spool.remove(rt, target, progress, encoded)
 }
 
 /// Makes the store's folder, unless it is there, and writes its name to the disk.
@@ -171,6 +194,8 @@ fn listed(rt: &HostRuntime, options: &EncodeOptions<'_>) -> Result<Listing, File
         has_stripes: true,
         part: None,
         links: options.links,
+        asks_copies: false,
+        sums: None,
         watched: &[],
     };
     let listing = list(rt, options.folder, &wanted).map_err(|error| device(
@@ -208,6 +233,7 @@ fn target_of<'o>(
         code: options.code,
         sums: stored_sums(rt, options.folder)?,
         is_changed: false,
+        has_failed: false,
         links: options.links,
         makes_folders: options.makes_folders,
         replaces: options.replaces,

@@ -3,8 +3,8 @@ use crate::tally::{Tally, released, write_line};
 use lrc_code::Code;
 use std::alloc::AllocError;
 use store_arguments::RemoveOptions;
-use store_encoding::{remove_stored, stored_sums};
-use store_faults::{FileFault, device};
+use store_encoding::{has_left, remove_stored, stored_sums};
+use store_faults::{FileFault, StoreFault, device};
 use store_files::Target;
 use store_opening::{Access, OpenStore, Opening, open_store, remove_leftovers};
 use store_reports::removed;
@@ -15,6 +15,8 @@ pub fn remove(rt: &HostRuntime, options: &RemoveOptions<'_>) -> Result<u8, FileF
         access: Access::Writes {
             trusts_writers: options.trusts_writers,
         },
+        // A run that was killed may have left a single fragment, or folders.
+        needs_stripes: false,
         ..Opening::to_read(
             options.folder,
             options.code,
@@ -25,9 +27,14 @@ pub fn remove(rt: &HostRuntime, options: &RemoveOptions<'_>) -> Result<u8, FileF
     };
     let store = open_store(rt, &opening)?;
     let status = remove_all(rt, options, &store);
-    let is_released = store.locks.release(rt);
+    let done = released(
+        rt,
+        store.locks.named(options.folder),
+        status,
+        store.locks.release(rt),
+    );
     drop(store);
-    released(rt, options.folder, status, is_released)
+    done
 }
 
 /// Takes files out of an open store.
@@ -36,11 +43,11 @@ fn remove_all(
     options: &RemoveOptions<'_>,
     store: &OpenStore,
 ) -> Result<u8, FileFault> {
-    let is_clean = match remove_leftovers(rt, &store.locks, &store.listing, "") {
-        Ok(is_clean) => is_clean,
-        Err(error) => return Err(device(rt.alloc(), options.folder, error)),
-    };
     let mut target = target_of(rt, options, store.code)?;
+    let is_clean = match cleaned(rt, options, store, &target) {
+        Ok(is_clean) => is_clean,
+        Err(fault) => return Err(fault),
+    };
     let done = remove_each(rt, options, &mut target, is_clean);
     drop(target);
     let done = done?;
@@ -49,6 +56,42 @@ fn remove_all(
         write_line(rt, removed(rt.alloc(), done.done, left))?;
     }
     Ok(done.status)
+}
+
+/// Removes what killed runs have left in a store. Gives whether all of it could be removed, and each folder that is there be listed. A
+/// folder without stripes that has nothing of the files either is none of a store.
+fn cleaned(
+    rt: &HostRuntime,
+    options: &RemoveOptions<'_>,
+    store: &OpenStore,
+    target: &Target<'_>,
+) -> Result<bool, FileFault> {
+    if store.found.files.is_empty() && !store.has_unlisted {
+        refuse_without(rt, options, target)?;
+    }
+    match remove_leftovers(rt, &store.locks, &store.listing, "") {
+        Ok(is_clean) => Ok(is_clean && !store.has_unlisted),
+        Err(error) => Err(device(rt.alloc(), options.folder, error)),
+    }
+}
+
+/// Refuses a folder that has nothing of the files that are to be taken out.
+fn refuse_without(
+    rt: &HostRuntime,
+    options: &RemoveOptions<'_>,
+    target: &Target<'_>,
+) -> Result<(), FileFault> {
+    for name in &options.names {
+        if has_left(rt, target, name)? {
+            return Ok(());
+        }
+    }
+    Err(FileFault::Store {
+        fault: StoreFault::NoFragments {
+            folder: String::from_str(rt.alloc(), options.folder)?,
+            names: String::from_str(rt.alloc(), options.naming.text)?,
+        },
+    })
 }
 
 /// Takes the files out of a store one after the other.
@@ -78,6 +121,7 @@ fn target_of<'o>(
         code,
         sums: stored_sums(rt, options.folder)?,
         is_changed: false,
+        has_failed: false,
         links: options.links,
         makes_folders: false,
         replaces: false,

@@ -7,7 +7,7 @@ use std::fs;
 use std::io::{self, ErrorKind};
 use store_faults::{Copies, CopyState, FoundCopy};
 use store_folder::{
-    Site, description_names, first_description_name, look_at, path_in, read_description,
+    Site, description_names, first_description_name, is_absent, look_at, path_in, read_description,
     refuse_linked_folders,
 };
 
@@ -98,26 +98,32 @@ fn state_of(
     path: &str,
 ) -> Result<CopyState, AllocError> {
     match refuse_linked_folders(rt, site.folder, name, site.links) {
-        Err(error) if error.kind() == ErrorKind::OutOfMemory => Err(AllocError),
+        Ok(()) => state_at(rt, site, path),
         Err(error) if error.kind() == ErrorKind::InvalidInput => Ok(CopyState::Absent),
-        _ => state_at(rt, site, path),
+        Err(error) => refused(error),
     }
 }
 
 /// What is at the path of a copy.
 fn state_at(rt: &HostRuntime, site: &Site<'_>, path: &str) -> Result<CopyState, AllocError> {
-    let error = match read_description(rt, path, site.links) {
+    match read_description(rt, path, site.links) {
         Ok(Some(described)) => {
             let text = described.text(rt.alloc())?;
             let digest = Sha256::digest(text.as_bytes());
-            return Ok(CopyState::There(described, digest));
+            Ok(CopyState::There(described, digest))
         }
-        Ok(None) => {
-            let length = look_at(rt, path, site.links).map_or(u64::MAX, |there| there.len());
-            return Ok(CopyState::Odd { length });
-        }
-        Err(error) => error,
-    };
+        Ok(None) => match look_at(rt, path, site.links) {
+            Ok(there) => Ok(CopyState::Odd {
+                length: there.len(),
+            }),
+            Err(error) => refused(error),
+        },
+        Err(error) => refused(error),
+    }
+}
+
+/// What a copy is that can't be read.
+fn refused(error: io::Error) -> Result<CopyState, AllocError> {
     match error.kind() {
         ErrorKind::OutOfMemory => Err(AllocError),
         ErrorKind::NotFound | ErrorKind::NotADirectory => Ok(CopyState::Absent),

@@ -16,7 +16,7 @@ use std::alloc::Global;
 use std::fs::{self, File, Metadata};
 use std::io::{self, ErrorKind};
 use store_faults::{FileFault, device};
-use store_files::{Digested, Fragments, Sought, set_that_fits, some_that_fit, survivors_of};
+use store_files::{Digested, Fragments, Sought, Tries, set_that_fits, survivors_of};
 use store_folder::{
     NewFile, Placed, SystemFolder, create_new, create_private, discard_new, folder_of, place_again,
     place_new,
@@ -41,6 +41,7 @@ pub(crate) fn write_at(
     sought: &Sought<'_, '_>,
     fragments: &Fragments,
     path: &str,
+    tries: &mut Tries,
 ) -> Result<bool, FileFault>
     requires { vec_len fragments.now.opened ≡ 16 }
 {
@@ -48,18 +49,18 @@ pub(crate) fn write_at(
     refuse_in_store(rt, sought, path)?;
     if let Err(fault) = refuse_over_limit(rt, path, sought.described.length) {
         // Another description may have another length.
-        return match set_that_fits(rt, sought, fragments)? {
+        return match set_that_fits(rt, sought, fragments, tries)? {
             Some(_) => Err(fault),
             None => Ok(false),
         };
     }
     match fs::symlink_metadata(rt, path) {
         Ok(there) if there.is_file() => {
-            write_whole(rt, files, sought, fragments, path, Some(&there))
+            write_whole(rt, files, sought, fragments, path, Some(&there), tries)
         }
-        Ok(_) => write_through(rt, sought, fragments, path),
+        Ok(_) => write_through(rt, sought, fragments, path, tries),
         Err(error) if error.kind() == ErrorKind::NotFound => {
-            write_whole(rt, files, sought, fragments, path, None)
+            write_whole(rt, files, sought, fragments, path, None, tries)
         }
         Err(error) => Err(device(alloc, path, error)),
     }
@@ -75,6 +76,7 @@ fn write_whole(
     fragments: &Fragments,
     path: &str,
     there: Option<&Metadata>,
+    tries: &mut Tries,
 ) -> Result<bool, FileFault>
     requires { vec_len fragments.now.opened ≡ 16 }
     ensures whenever { PutsFile path.now sought.now.described.digest (⟦<SystemFolder<'static> as Folder>⟧.calls files.old)
@@ -84,7 +86,7 @@ fn write_whole(
     ensures done { IfOk result (λ is. is ≡ true → is_temporary path.now ≡ false → HasFile path.now sought.now.described.digest
         (⟦<SystemFolder<'static> as Folder>⟧.calls files.new)) }
 {
-    let Some(file) = write_new(rt, files, sought, fragments, path, there)? else {
+    let Some(file) = write_new(rt, files, sought, fragments, path, there, tries)? else {
         return Ok(false);
     };
     match put(files, file, path, there.is_some()) {
@@ -136,10 +138,11 @@ fn write_through(
     sought: &Sought<'_, '_>,
     fragments: &Fragments,
     path: &str,
+    tries: &mut Tries,
 ) -> Result<bool, FileFault>
     requires { vec_len fragments.now.opened ≡ 16 }
 {
-    let Some(set) = set_that_fits(rt, sought, fragments)? else {
+    let Some(set) = set_that_fits(rt, sought, fragments, tries)? else {
         return Ok(false);
     };
     let file = opened(rt, path).map_err(|error| device(rt.alloc(), path, error))?;
@@ -163,6 +166,7 @@ fn write_new(
     fragments: &Fragments,
     path: &str,
     there: Option<&Metadata>,
+    tries: &mut Tries,
 ) -> Result<Option<NewFile>, FileFault>
     requires { vec_len fragments.now.opened ≡ 16 }
     ensures whenever { KeepsEach (⟦<SystemFolder<'static> as Folder>⟧.calls files.old)
@@ -172,14 +176,23 @@ fn write_new(
     let all = fragments.set;
     match write_from(rt, files, sought, fragments, all, path, there)? {
         Attempt::Right(file) => return Ok(Some(file)),
-        Attempt::Wrong(fault) => drop(fault),
+        Attempt::Wrong(Wrong::Other(fault)) => {
+            drop(fault);
+            let _ = tries.note(sought, all)?;
+        }
+        Attempt::Wrong(Wrong::Unread { index, error }) => {
+            tries.leave_out(rt, sought, index, error)?;
+        }
     }
-    let Some(set) = some_that_fit(rt, sought, fragments)? else {
+    let Some(set) = set_that_fits(rt, sought, fragments, tries)? else {
         return Ok(None);
     };
     match write_from(rt, files, sought, fragments, set, path, there)? {
         Attempt::Right(file) => Ok(Some(file)),
-        Attempt::Wrong(fault) => Err(fault),
+        Attempt::Wrong(Wrong::Other(fault)) => Err(fault),
+        Attempt::Wrong(Wrong::Unread { index: _, error }) => {
+            Err(device(rt.alloc(), sought.file.name, error))
+        }
     }
 }
 
@@ -188,7 +201,15 @@ fn write_new(
 #[derive(Drop)]
 enum Attempt {
     Right(NewFile),
-    Wrong(FileFault),
+    Wrong(Wrong),
+}
+
+/// Why what was written isn't the file that is described.
+#[derive(Drop)]
+enum Wrong {
+    Other(FileFault),
+    /// The fragment at the place of this index can't be read.
+    Unread { index: usize, error: io::Error },
 }
 
 /// Writes the file as these fragments have it.
@@ -213,8 +234,17 @@ fn write_from(
     };
     match filled(rt, sought, fragments, set, file, path, there) {
         (file, Ok(None)) => Ok(Attempt::Right(file)),
-        (file, Ok(Some(fault))) => Ok(Attempt::Wrong(removed(alloc, files, file, path, fault))),
-        (file, Err(fault)) => Err(removed(alloc, files, file, path, fault)),
+        (file, Ok(Some(wrong))) => {
+            remove(alloc, files, file, path)?;
+            Ok(Attempt::Wrong(wrong))
+        }
+        (file, Err(fault)) => {
+            if let Err(left) = remove(alloc, files, file, path) {
+                let line = format!(in rt.alloc(); "rebuild-store: {left}");
+                sought.file.say(rt, line);
+            }
+            Err(fault)
+        }
     }
 }
 
@@ -228,7 +258,7 @@ fn filled(
     file: NewFile,
     path: &str,
     there: Option<&Metadata>,
-) -> (NewFile, Result<Option<FileFault>, FileFault>)
+) -> (NewFile, Result<Option<Wrong>, FileFault>)
     requires sixteen { vec_len fragments.now.opened ≡ 16 }
     requires empty { content_of file ≡ Some [] }
     ensures { IfOk result.1 (λ fault. fault ≡ None → HasDigest sought.now.described.digest (content_of result.0)) }
@@ -276,35 +306,30 @@ fn ended(
     path: &str,
     done: Result<(), MendFault>,
     is_described: bool,
-) -> Result<Option<FileFault>, FileFault>
+) -> Result<Option<Wrong>, FileFault>
     ensures { IfOk result (λ fault. fault ≡ None → is_described ≡ true) }
 {
     match done {
         Ok(()) if is_described => Ok(None),
-        Ok(()) | Err(MendFault::Several { .. }) => Ok(Some(changed_meanwhile(alloc, sought))),
-        Err(MendFault::Unread { error, .. }) => Ok(Some(device(alloc, sought.file.name, error))),
+        Ok(()) | Err(MendFault::Several { .. }) => Ok(Some(Wrong::Other(changed_meanwhile(
+            alloc, sought,
+        )))),
+        Err(MendFault::Unread { index, error }) => Ok(Some(Wrong::Unread { index, error })),
         Err(MendFault::Unwritten { error, .. }) => Err(device(alloc, path, error)),
         Err(MendFault::OutOfMemory) => Err(FileFault::OutOfMemory),
     }
 }
 
-/// Removes a file that isn't the one that is described, and gives why; or why it can't be removed.
-fn removed<F: Folder>(
+/// Removes a file that isn't the one that is described.
+fn remove<F: Folder>(
     alloc: Global,
     files: &mut F,
     file: NewFile<F::New>,
     path: &str,
-    fault: FileFault,
-) -> FileFault
+) -> Result<(), FileFault>
     ensures { KeepsEach (F.calls files.old) (F.calls files.new) }
 {
-    match discard_new(files, file) {
-        Ok(()) => fault,
-        Err(error) => {
-            drop(fault);
-            device(alloc, path, error)
-        }
-    }
+    discard_new(files, file).map_err(|error| device(alloc, path, error))
 }
 
 /// Gives a file the owner and the rights of what it replaces.

@@ -68,6 +68,7 @@ pub(crate) fn repaired(
         tag: "",
         links: Links::NotFollowed,
         unmounted: &[],
+        shared: None,
     };
     let mut store = SeparateStore::new(FolderStore::over(rt, files, site));
     let outcome = repair_stripe(rt.alloc(), &mut store, &case.repair, &stripe);

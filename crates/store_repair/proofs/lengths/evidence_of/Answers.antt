@@ -19,7 +19,7 @@ returns-in-Ok-true-clause-checks g c = λ _.
     confirmed code len stripe opened.set files (c.are_checked.ensures c.if-not-are_checked.false)
     (of_one_stripe shown code stripe len opened.set opened.fragments.items sixteen files c.in_ok-opened.ensures.opened
     (λ xs are whole. subst (IsConsistency code (is_in opened.set) xs len) c.in-Ok-true.field-0-test
-    (c.in-Ok-true.ensures-1 xs (subst (λ fs. AreShown shown fs xs) (sym c.as_slice.ensures.value) are) whole)))
+    (c.in-Ok-true.ensures xs (subst (λ fs. AreShown shown fs xs) (sym c.as_slice-2.ensures.value) are) whole)))
 
 pub returns-in_err-opened-clause-checks : goal.returns-in_err-opened-clause-checks
 returns-in_err-opened-clause-checks g c = IfOk-from_err _ _ c.from_residual.ensures.0

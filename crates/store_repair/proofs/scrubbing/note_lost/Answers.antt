@@ -5,16 +5,16 @@ use Rattle.lrc_code.specs.Codes.{tables_of}
 use Rattle.store_repair.specs.Findings.{named}
 use Rattle.stores.specs.Stripes.{has_file}
 use Rattle.store_repair.proofs.AccountedLemmas.{named_that_pass}
-use Rattle.store_repair.proofs.NamedLemmas.{named_more}
-use Rattle.store_repair.proofs.ScrubLemmas.{same_said}
+use Rattle.store_repair.proofs.NamedLemmas.{named_kept_more}
 use Rattle.store_repair.proofs.scrubbing.note_lost.Goals as goal
 
 pub loop-place-preserved : goal.loop-place-preserved
 loop-place-preserved c =
     record {
-      said = same_said _ _ _ c.in_ok-note.ensures.said (c.of.ensures.none _) ∙ c.loop-place.invariant.said;
-      each = named_more c.deref-place-items.result.now c.loop-place.place-index c.loop-place.findings.items c.note.new.findings.items _ _
-          c.loop-place-test.true refl c.in_ok-note.ensures.named c.loop-place.invariant.each;
+      said = c.in_ok-note_unnamed.ensures.said ∙ c.loop-place.invariant.said;
+      each = named_kept_more c.deref-place-items.result.now c.loop-place.place-index c.loop-place.findings.items
+          c.note_unnamed.new.findings.items _ _ c.loop-place-test.true refl c.in_ok-note_unnamed.ensures.named
+          c.in_ok-note_unnamed.ensures.kept c.loop-place.invariant.each;
     }
 
 pub returns-clause-lost : goal.returns-clause-lost

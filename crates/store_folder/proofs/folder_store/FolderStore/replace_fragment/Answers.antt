@@ -17,12 +17,13 @@ returns-in-Ok-clause-whenever g c =
     let written = g.F.New.NewFile.written in
     let old = g.F.Folder.calls c.args.self.now.files in
     let new = g.F.Folder.calls c.exchange.new.self.files in
-    let path = subst (λ r. IfOk r (λ path. IsPathOf site stripe place (string_bytes path))) c.in-Ok.is c.finish-finished.ensures.path in
+    let path = subst (λ r. IfOk r (λ path. IsPathOf site stripe place (string_bytes path))) c.in-Ok.is
+    c.finish_over-finished.ensures.path in
     let here = subst (IsPathOf site stripe place) (sym c.as_str.ensures.value) path in
-    let free = subst (λ r. IfOk r (λ path. is_temporary (string_bytes path) ≡ false)) c.in-Ok.is c.finish-finished.ensures.lasting in
+    let free = subst (λ r. IfOk r (λ path. is_temporary (string_bytes path) ≡ false)) c.in-Ok.is c.finish_over-finished.ensures.lasting in
     let lasting = ap is_temporary c.as_str.ensures.value ∙ free in
-    subst (λ w. ReplacesIn site stripe place w old new) (ap (λ u. written u.file) c.finish-finished.ensures.same)
-    (replaces_here site stripe place (written c.finish-finished.new.file.unfinished.file) c.as_str.result.now old new here lasting
+    subst (λ w. ReplacesIn site stripe place w old new) (ap (λ u. written u.file) c.finish_over-finished.ensures.same)
+    (replaces_here site stripe place (written c.finish_over-finished.new.file.unfinished.file) c.as_str.result.now old new here lasting
     c.exchange.ensures.whenever)
 
 pub returns-in-Ok-clause-touched : goal.returns-in-Ok-clause-touched
@@ -35,21 +36,23 @@ returns-in-Ok-clause-named g c =
     let place = c.args.place in
     let written = g.F.New.NewFile.written in
     let new = c.exchange.new.self in
-    let path = subst (λ r. IfOk r (λ path. IsPathOf site stripe place (string_bytes path))) c.in-Ok.is c.finish-finished.ensures.path in
+    let path = subst (λ r. IfOk r (λ path. IsPathOf site stripe place (string_bytes path))) c.in-Ok.is
+    c.finish_over-finished.ensures.path in
     let here = subst (IsPathOf site stripe place) (sym c.as_str.ensures.value) path in
-    let free = subst (λ r. IfOk r (λ path. is_temporary (string_bytes path) ≡ false)) c.in-Ok.is c.finish-finished.ensures.lasting in
+    let free = subst (λ r. IfOk r (λ path. is_temporary (string_bytes path) ≡ false)) c.in-Ok.is c.finish_over-finished.ensures.lasting in
     let lasting = ap is_temporary c.as_str.ensures.value ∙ free in
-    let some = subst (λ r. IfOk r (λ _. IsSome (written c.finish-finished.new.file.unfinished.file))) c.in-Ok.is
-    c.finish-finished.ensures.whole in
-    let listed = subst (λ r. IfOk r (λ _. IsAsListed site stripe place (written c.finish-finished.new.file.unfinished.file))) c.in-Ok.is
-    c.finish-finished.ensures.listed in
+    let some = subst (λ r. IfOk r (λ _. IsSome (written c.finish_over-finished.new.file.unfinished.file))) c.in-Ok.is
+    c.finish_over-finished.ensures.whole in
+    let listed = subst (λ r. IfOk r (λ _. IsAsListed site stripe place (written c.finish_over-finished.new.file.unfinished.file)))
+    c.in-Ok.is
+    c.finish_over-finished.ensures.listed in
     subst (λ w. IfOk c.exchange.result (λ placed. placed ≡ outcome.Placed → IsNamed site stripe place w new.touched.folders.items
-    (g.F.Folder.calls new.files))) (ap (λ u. written u.file) c.finish-finished.ensures.same)
+    (g.F.Folder.calls new.files))) (ap (λ u. written u.file) c.finish_over-finished.ensures.same)
     (if_ok c.exchange.result _ _ c.exchange.ensures.due (λ placed due is. record {
       path = c.as_str.result.now;
       here = here;
       lasting = lasting;
-      due = some_due _ (written c.finish-finished.new.file.unfinished.file) _ some (inr (due is));
+      due = some_due _ (written c.finish_over-finished.new.file.unfinished.file) _ some (inr (due is));
       listed = listed;
     }))
 
