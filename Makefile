@@ -36,7 +36,8 @@ LIBRARY := crates/lrc_c/$(if $(TARGET),out/$(TARGET),$(BUILT))
 LIBRARY_CC := $(if $(TARGET),$(subst -unknown,,$(TARGET))-gcc,$(CC))
 
 .PHONY: build notices store demo try install uninstall library link-library install-library uninstall-library ceph install-ceph \
-  uninstall-ceph try-ceph try-ceph-releases ceph-needs test levels wrong-bodies scale lifetime bench listing packages try-packages
+  uninstall-ceph try-ceph try-ceph-releases ceph-needs test levels wrong-bodies more-seeds scale lifetime bench listing packages \
+  try-packages
 
 # The programs, each with its crate, in whose out/ it is built; and what is installed: each has a manual page and completions.
 PROGRAMS := rebuild rebuild-store
@@ -175,7 +176,7 @@ STORE := ceph/test.sh $(addprefix gate/,store-files.py store-strangers.py store-
   repair-store.py store-watching.py store-sharing.py packages.sh store-life.py store-options.py store-arguments.py store-results.py \
   store-names.py store-records.py store-memory.py store-allocations.py store-file-allocations.py store-refusals.py store-disks.py \
   store-model.py store-file-model.py store-random-faults.py store-random-stops.py store-decisions.py store-rare.py store-others.py \
-  store-failing.py no-compile.py examples.py manual.sh completions.sh install.sh version.sh)
+  store-failing.py store-links.py store-unread.py no-compile.py examples.py manual.sh completions.sh install.sh version.sh)
 FARM := $(addprefix gate/,refusals.py reference-lines.sh line-mode.py answers.py codes.py arguments.py lists.py farm-folders.py \
   farm-calls.py farm-batches.py farm-shelves.py ends.sh numbers.py tables.py growth.py memory.py) tools/demo.sh
 FARM_NEEDS := rebuild,lrc_tests:tests,farm_lists_tests:tests,farm_tests:tests,store_tests:tests
@@ -224,6 +225,11 @@ CRATES :=
 wrong-bodies:
 	tools/try-wrong-bodies.py $(CPU) $(CRATES)
 	$(if $(CRATES),,tools/tested-wrong-bodies.py)
+
+# The random tests of rebuild-store over SEEDS further stores each. It is no part of the gate.
+SEEDS := 400
+more-seeds: store
+	tools/more-seeds.py crates/rebuild_store/out/rebuild_store $(SEEDS)
 
 # Builds the program for each level that the processor has, and runs the gate's scripts over each. It is no part of the gate.
 levels:

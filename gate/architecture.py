@@ -1,11 +1,12 @@
 #!/usr/bin/env python3
 """Tests that each file that docs/ARCHITECTURE.md and CONTRIBUTING.md name is there, that the former leads to the page of each crate, which
-says where to begin, and that each source and script says at its head what it is for.
+says where to begin, that each source and script says at its head what it is for, and that scripts that say what runs them may be run.
 
     architecture.py                     tests
     architecture.py files [WORD ..]     prints each file of crates/*/src with the first sentence of its comment; those that have all words
     architecture.py scripts [WORD ..]   prints each script with the first sentence of its comment"""
 
+import os
 import pathlib
 import re
 import sys
@@ -59,6 +60,14 @@ def scripts():
                 yield str(file.relative_to(ROOT)), comment_of_script(file)
 
 
+def not_runnable():
+    """The scripts that have `#!`, or else no right to be run, but not both."""
+    for folder in (*SCRIPTS, "packaging", "companion"):
+        for file in sorted(it for it in (ROOT / folder).iterdir() if it.is_file()):
+            if file.read_bytes().startswith(b"#!") != os.access(file, os.X_OK):
+                yield str(file.relative_to(ROOT))
+
+
 def astray():
     """The crates whose page the table of docs/ARCHITECTURE.md doesn't link to, or doesn't say where to begin, with a file that is there."""
     table = (ROOT / "docs/ARCHITECTURE.md").read_text()
@@ -81,6 +90,8 @@ def main():
     silent = [name for name, said in [*sources(), *scripts()] if not said]
     if silent:
         sys.exit(f"architecture: these don't say at their head what they are for: {', '.join(silent)}")
+    if [*not_runnable()]:
+        sys.exit(f"architecture: these begin with #! and can't be run, or can be and don't: {', '.join(not_runnable())}")
     files = ["/" + str(it.relative_to(ROOT)) for it in ROOT.rglob("*.*") if ".git" not in it.parts and "out" not in it.parts]
     named = {name for page in MAPS for name in re.findall(r"`([\w/.-]+\.(?:rt|antt|py|sh|h|txt|5))`", page.read_text())}
     absent = [name for name in sorted(named) if not any(file.endswith("/" + name) for file in files)]

@@ -16,7 +16,7 @@ import refusals  # noqa: E402
 
 ROOT = pathlib.Path(__file__).resolve().parent.parent
 PROGRAM = ROOT / "crates/rebuild/out/rebuild"
-SECONDS = 60
+SECONDS = 300
 
 HELP = """\
 Rebuilds lost fragments of stripes coded by a (6,2,2) or (12,2,2) Local Reconstruction Code.

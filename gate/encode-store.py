@@ -375,7 +375,7 @@ def test_refusals(folder, code, choose):
     run("read", folder, status=2)
     run("read", folder, "nothing", status=1)
     full = open("/dev/full", "wb")
-    done = subprocess.run([PROGRAM, "read", folder, "good"], stdout=full, stderr=subprocess.PIPE, text=True, timeout=60)
+    done = subprocess.run([PROGRAM, "read", folder, "good"], stdout=full, stderr=subprocess.PIPE, text=True, timeout=300)
     check(done.returncode == 3 and "standard output" in done.stderr, done.stderr)
 
 

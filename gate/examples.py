@@ -55,7 +55,7 @@ def run(document, folder):
     for command, shown in list(examples((ROOT / document).read_text())):
         environment = os.environ | {"PATH": f"{folder / 'bin'}:{os.environ['PATH']}", "LC_ALL": "C"}
         ran = subprocess.run(["bash", "-c", command], cwd=folder / "work", env=environment, stdout=subprocess.PIPE,
-                             stderr=subprocess.STDOUT, timeout=60)
+                             stderr=subprocess.STDOUT, timeout=300)
         said = ran.stdout.decode().splitlines()
         if said != shown:
             sys.exit(f"examples {document}: {command}\nshows {shown}\nand wrote {said}")

@@ -28,6 +28,8 @@ class Excuse:
     errors: set = frozenset()
     # Whether only calls after the first file was made, or after the file was opened, are meant.
     is_late: bool = False
+    # Whether only stripes are meant of which files have several lengths.
+    of_lengths: bool = False
 
     def holds(self, judge):
         failed = judge.failed
@@ -35,28 +37,35 @@ class Excuse:
             return False
         if failed.rest and not self.always or self.errors and failed.how not in self.errors:
             return False
+        if self.of_lengths and not any(map(judge.has_several_lengths, judge.stripes_of([failed.paths[-1]]) - {None})):
+            return False
         kinds = judge.trial.ended.kinds[:failed.number - 1]
         return not self.is_late or "create" in kinds or "open" in kinds[-3:]
 
 
 OF_OUTPUTS = [
-    Excuse(LOOKING, {*OPEN, "read"}, {"output"}, "it isn't known then whether a report or its folder is one of the store", always=True),
+    Excuse(LOOKING, {"open", "read"}, {"output"}, "it isn't known then whether a run wrote what is at the path of a report", always=True),
     Excuse(LOOKING, {"create", "lock", "look"}, {"unfinished output"}, "if no file can be made beside it, a report is written as it is",
            always=True, errors=REFUSED),
     Excuse({*LOOKING, "read"}, {"chown"}, {"unfinished output"}, "the same, if a new one can't be given away", always=True, errors=REFUSED),
-    Excuse({"read"}, LOOK, {"output"}, "an output is looked at twice"),
+    Excuse({*LOOKING, "read"}, LOOK, {"output"}, "an output is looked at twice"),
 ]
 OF_NO_STRIPE = [
     Excuse(ALL, LOOK, {"nothing"}, "what isn't there isn't there either if it can't be looked at", always=True),
     Excuse(ALL, LOOK, {"strange"}, "a file of another program is left alone", always=True),
-    Excuse(LOOKING, LOOK, {"alone"}, "what is of no stripe needn't be looked at", always=True),
+    Excuse({*LOOKING, "encode", "remove"}, LOOK, {"alone"}, "what is of no stripe needn't be looked at", always=True),
     Excuse(LOOKING, LOOK, {"beside"}, "the ends of links are looked at to find what runs have left there", always=True),
-    Excuse(LOOKING, LOOK, {"link"}, "what a link leads to counts as lost", always=True),
+    Excuse(LOOKING, {*LOOK, "readlink"}, {"link"}, "what a link leads to counts as lost, and a report is written there", always=True),
     Excuse(WRITING, {"lock"}, {"left over"}, "the store is locked, so what is unfinished there is left over", always=True),
     Excuse(WRITING, OPEN, {"left over"}, "what is left over is opened again after it was seen whether a run has locked it"),
     Excuse(WRITING, OPEN, {"left over"}, "what may not be opened is known to be left over", always=True, errors=REFUSED),
 ]
 OF_STRIPES = [
+    Excuse(LOOKING, READS, {"fragment", "beside"}, "of several lengths fragments are read to see which is right, and then once more",
+           of_lengths=True),
+    Excuse(LOOKING, LOOK, {"folder"}, "copies of descriptions are asked for the code, and their folders looked at again"),
+    Excuse(LOOKING, {*LOOK, "readlink"}, {"folder beside", "description", "beside"}, "nothing is made where a link leads then",
+           always=True),
     Excuse(LOOKING, READS, {"of another part"}, "of other parts descriptions alone are read, to see which code most say", always=True),
     Excuse(LOOKING, READS, {"description"}, "a description is read twice, of which the second time says it"),
     Excuse(LOOKING, LOOK, {"description"}, "its rights needn't be known", always=True, is_late=True),
@@ -73,14 +82,14 @@ OF_STORED_FILES = [
            "what is looked at twice, of which the second time says it"),
     Excuse(READING, {*OPEN, "read"}, {"description", "staged"}, "it was read before", always=True),
     Excuse({"remove"}, {"open", "read"}, {"description", "staged"}, "another copy says the code", always=True),
-    Excuse({"remove"}, LOOK, {"description", "staged"}, "what isn't removed is said, and not whether it is described", always=True),
+    Excuse({"remove"}, LOOK, {"fragment", "description", "staged"}, "what isn't removed is said, and not what stays with it", always=True),
+    Excuse({"remove"}, LOOK, {"beside"}, "what a link leads to isn't removed", always=True),
     Excuse({"encode", "remove"}, READS, {"of another file"}, "other files of the store aren't read", always=True),
     Excuse({"encode", "remove"}, LOOK, {"digests"}, "what is looked at twice"),
     Excuse({"encode"}, LOOK, {"source"}, "how far a run is needn't be known", always=True),
     Excuse({"encode"}, READS, {"description", "fragment", "folder", "staged"}, "what is looked at twice, of which the second time says it"),
     Excuse({"encode"}, {*OPEN, "lock"}, {"staged"}, "a file that gets a second name is locked if that can be", always=True),
     Excuse({"encode"}, {"unlink"}, {"unfinished"}, "its name has gone already", always=True),
-    Excuse({"encode", "remove"}, {"rmdir"}, {"folder", "staged", "nothing"}, "a folder in which something is stays", always=True),
 ]
 EXCUSES = [*OF_OUTPUTS, *OF_NO_STRIPE, *OF_STRIPES, *OF_STORED_FILES]
 

@@ -22,7 +22,7 @@ from served import (  # noqa: E402
 
 ANSWERED, SERVED, REPORTED = [[str(TESTS), name] for name in (
     "files::batches::answered_in_batches", "files::batches::served_with_a_pause", "files::surface::reports_on_a_list")]
-SECONDS = 60
+SECONDS = 300
 ENDED = "test result: ok"
 
 # The greatest size of a batch.

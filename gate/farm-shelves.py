@@ -20,7 +20,7 @@ import refusals  # noqa: E402
 from served import TESTS, Checks  # noqa: E402
 
 FOLDER, AHEAD, MEMORY = [[str(TESTS), f"files::shelves::{name}"] for name in ("of_a_folder", "read_ahead_of_a_folder", "in_memory")]
-SECONDS = 60
+SECONDS = 300
 
 # What a test ends its output with.
 ENDED = "\ntest result: ok\n"

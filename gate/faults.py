@@ -15,7 +15,7 @@ import tempfile
 import runs
 
 ROOT = pathlib.Path(__file__).resolve().parent.parent
-SECONDS = 20
+SECONDS = 300
 # What fail-call.c records: three numbers, the kinds of so many calls, and a path.
 MOST_CALLS = 4_096
 COUNTS, KIND, MOST_PATH = struct.Struct("=3Q"), 8, 4_096

@@ -50,6 +50,11 @@ def determine_all(code, there):
     return bool(there) and len(solved(code, there)) + len(there) == len(PLACES[code])
 
 
+def have_checks(code, there):
+    """Whether one of the fragments at some places is determined by the others, so that they are more than determine a stripe."""
+    return any(place in solved(code, frozenset(there) - {place}) for place in there)
+
+
 def parts_of(code, length):
     """The places of a file's parts that have bytes of it."""
     size = fragment_length(code, length)

@@ -226,8 +226,7 @@ def lose_all_fragments(case):
 def add_own_description(case):
     """A description in the store's own folder, as earlier builds made it, or what has its name."""
     choose, name = case.choose, some_file(case)
-    # Where a file has a folder of its own, only `read` looks at such a description, and `list` and `verify` should too.
-    if name is None or case.naming.disks(case.laid[name][0]) is None:
+    if name is None or not case.naming.depth:
         return
     code, data = case.laid[name]
     line = choose.choice([description_of(data, code).line()] * 3 + [description_of(b"older", code).line(), b"no line", b"x" * 94])

@@ -149,7 +149,7 @@ def is_for_fragments(name):
 def is_name(naming, code, stripe):
     """Whether fragments of a code can have the names that a stripe's name gives them."""
     names = [naming.name(code, stripe, place) for place in PLACES[code]]
-    return None not in names and SUMS not in names
+    return None not in names and not any(name.split("/")[0] == SUMS for name in names)
 
 
 def can_encode(naming, code, stripe):

@@ -2,7 +2,7 @@
 and rights, and paths to which files are read."""
 
 from file_model_damage import copies, fragments, lose_sums
-from file_model_names import CODES, KEPT, PLACES, folder_in
+from file_model_names import CODES, KEPT, PLACES, STAGED, folder_in
 from file_model_runs import STORE
 from file_model_tree import MINE, File, Folder, Link
 
@@ -25,6 +25,16 @@ def leave_strangers(case):
         for name in choose.sample(names, many) + ["notes", "some.text"]:
             if isinstance(case.tree.at.get(folder_in(f"{STORE}/{name}")), Folder) and not case.node(name):
                 case.put(name, choose.randbytes(length if choose.random() < 0.9 else length + 1))
+
+
+def leave_of_other_code(case):
+    """Files of others whose names the (12,2,2) code alone gives a file of the store, or what was to replace one."""
+    choose, naming = case.choose, case.naming
+    narrow, wide = (naming.fragments(code, choose.choice(case.names) + choose.choice(["", "", STAGED])) for code in CODES)
+    beyond = [name for name in wide if name not in narrow]
+    for name in choose.sample(beyond, choose.choice([1, 1, 2])):
+        if isinstance(case.tree.at.get(folder_in(f"{STORE}/{name}")), Folder) and not case.node(name):
+            case.put(name, choose.randbytes(5))
 
 
 def lay_other_code(case):
@@ -101,4 +111,5 @@ def add_outputs(case):
         case.tree.make_folders(f"{STORE}/other")
 
 
-OTHERS = [keep_damaged, leave_strangers, lay_other_code, lay_undescribed, open_folder, give_away, add_unreadable_name, add_folders]
+OTHERS = [keep_damaged, leave_strangers, leave_of_other_code, leave_of_other_code, lay_other_code, lay_undescribed, open_folder, give_away,
+          add_unreadable_name, add_folders]

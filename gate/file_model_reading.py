@@ -3,10 +3,11 @@ rebuild-store(5)."""
 
 import json
 
-from file_model_code import determine_all, file_of, fragment_length, parts_of
-from file_model_names import EACH, PLACES, STAGED, SUMS, BadSums, digest, escaped, folder_in
+from file_model_code import determine_all, file_of, fragment_length, have_checks, parts_of
+from file_model_names import CODES, EACH, PLACES, STAGED, SUMS, BadSums, digest, escaped, folder_in
+from file_model_output import write_to
 from file_model_store import DEVICE, IS_LINK, LINKED_FOLDER, NO_FILE, OF_LOST, USAGE, Fault, Opened, Unclear, state_of, survivors_of
-from file_model_tree import ABSENT, NO_FOLDER, File, Folder, Link, System, above
+from file_model_tree import ABSENT, NO_FOLDER, System
 
 NOT_DESCRIBED = "isn't a line with a length, a digest and a code"
 
@@ -25,6 +26,15 @@ def copies_of(store, name, has_first):
     return names + [f"{name}.file"] * (has_first and f"{name}.file" not in names)
 
 
+class Unread(Fault):
+    """Why a copy can't be read that may be a description."""
+
+
+def grave(fault):
+    """How grave it is that a copy says nothing."""
+    return fault.status, isinstance(fault, Unread)
+
+
 def said_by(store, copy):
     """What a copy says; none where none is there."""
     try:
@@ -33,14 +43,14 @@ def said_by(store, copy):
     except System as refused:
         if refused.is_absent:
             return None
-        raise Fault(f"{store.path(copy)}: {refused.words}", DEVICE) from None
+        raise (Fault if refused.words in OF_LOST else Unread)(f"{store.path(copy)}: {refused.words}", DEVICE) from None
     if said is None:
         raise Fault(f"{store.path(copy)}: {NOT_DESCRIBED}")
     return said
 
 
 def said_of(store, copies):
-    """What copies say, each once, first what most say; and why those that can't be read can't."""
+    """What copies say, each once, first what most say; and why those that can't be read can't, last the gravest."""
     said, faults = [], []
     for copy in copies:
         try:
@@ -48,15 +58,27 @@ def said_of(store, copies):
         except Fault as fault:
             faults.append(fault)
     said = [it for it in said if it]
+    if faults:
+        last = max(range(len(faults)), key=lambda number: (grave(faults[number]), number))
+        faults.append(faults.pop(last))
     return sorted(dict.fromkeys(said), key=lambda it: -said.count(it)), faults
+
+
+def own_sums(store):
+    """The digests that the store has; none where it has no file of them, or one of another form."""
+    try:
+        return store.read_sums(store.follows)
+    except BadSums:
+        return {}
+    except System as refused:
+        if refused.is_absent or refused.words in OF_LOST:
+            return {}
+        raise Fault(f"{store.path(SUMS)}: {refused.words}", DEVICE) from None
 
 
 def listed_first(store, copies, said):
     """What copies say, first what the digests name."""
-    try:
-        sums = store.read_sums(store.follows) if len(said) > 1 else {}
-    except (BadSums, System):
-        return said
+    sums = own_sums(store) if len(said) > 1 else {}
     listed = {sums[copy.encode()] for copy in copies if copy.encode() in sums}
     return sorted(said, key=lambda it: digest(it.line()) not in listed)
 
@@ -153,10 +175,7 @@ class Sought:
 
     def with_digests(self):
         """The fragments that have their digests, or none."""
-        try:
-            sums = self.store.read_sums(self.store.follows)
-        except (BadSums, System):
-            return list(self.fragments)
+        sums = own_sums(self.store)
         return [place for place, data in self.fragments.items() if sums.get(self.path_of(place).encode(), digest(data)) == digest(data)]
 
     def beside_descriptions(self):
@@ -266,34 +285,76 @@ def shares_fragment(store, one, other):
     return False
 
 
-def has_enough(store, described, name):
-    """Whether so many fragments of the described length are there that they give the others."""
-    there, length = [], fragment_length(described.code, described.length)
-    for place in PLACES[described.code]:
+def has_enough(store, code, name, length=None):
+    """Whether so many fragments are there, of a length if one is given, that they give the others."""
+    there, faults = [], []
+    for place in PLACES[code]:
+        fragment = store.naming.fragment(code, name, place)
         try:
-            there += [place] * (store.fragment(store.naming.fragment(described.code, name, place), length) is not None)
-        except System:
-            pass
-    return determine_all(described.code, there)
+            store.refuse_linked(fragment)
+            data = store.file(fragment).data
+            there += [(place, True)] * (length in (None, len(data)))
+        except System as refused:
+            if not refused.is_absent and refused.words not in OF_LOST:
+                there.append((place, False))
+                faults.append(Fault(f"{store.path(fragment)}: {refused.words}", DEVICE))
+    if determine_all(code, [place for place, is_sure in there if is_sure]):
+        return True
+    is_unknown = determine_all(code, [place for place, _ in there])
+    for fault in faults[:-1] if is_unknown else faults:
+        store.say(fault.line)
+    if is_unknown:
+        raise faults[-1]
+    return False
 
 
 def is_newer(store, name):
-    """Whether all of a stripe is there that is to replace the one of a name."""
+    """Whether a stripe that is to replace the one of a name is described, and fragments enough to read it are there."""
+    said, faults = said_of(store, copies_of(store, name + STAGED, False))
+    unknown = None
+    for described in said:
+        try:
+            if has_enough(store, described.code, name + STAGED, fragment_length(described.code, described.length)):
+                return True
+        except Fault as fault:
+            unknown = fault
+    if unknown:
+        raise unknown
+    if faults and not said:
+        # A run makes the copies in their order.
+        is_begun = not is_absent(store, copies_of(store, name + STAGED, False)[0])
+        may_be = isinstance(faults[-1], Unread) and is_begun and may_be_there(store, name + STAGED)
+        if may_be or shares_fragment(store, name + STAGED, name):
+            raise faults[-1]
+    return False
+
+
+def is_absent(store, copy):
     try:
-        said = said_for_sure(store, name + STAGED)
+        return said_by(store, copy) is None
     except Fault:
-        if shares_fragment(store, name + STAGED, name):
-            raise
         return False
-    return any(is_whole(store, described.code, name + STAGED) for described in said)
+
+
+def may_be_there(store, name):
+    """Whether fragments enough of a stripe may be there that nothing describes."""
+    for code in CODES:
+        try:
+            if has_enough(store, code, name):
+                return True
+        except Fault:
+            return True
+    return False
+
+
+def newest_of(store, name):
+    """The name under which the file is."""
+    return name + STAGED if is_newer(store, name) else name
 
 
 def read(store, name, output=None):
     """The command `read`: gives what is written to standard output."""
-    newest = name + STAGED if is_newer(store, name) else name
-    if newest != name and not any(has_enough(store, it, newest) for it in said_for_sure(store, newest)):
-        # Without fragments enough to read it, it isn't the file, and here it is taken for it by the names that there are.
-        raise Unclear("what was to replace a file has too few fragments of its length")
+    newest = newest_of(store, name)
     if output is None:
         try:
             return read_stripe(store, newest)
@@ -310,85 +371,6 @@ def read(store, name, output=None):
     return b""
 
 
-def write_to(sought, output):
-    """Writes a file that is read to a path, unless that is the store's."""
-    store, tree = sought.store, sought.store.tree
-    try:
-        if is_in_store(sought, above(output)) or is_linked_into_store(sought, output):
-            raise Fault(f"{output}: is in a folder of the store", USAGE)
-        end = tree.look(output, True) if tree.is_there(output) and isinstance(tree.look(output), Link) and leads(tree, output) else None
-        if isinstance(end, File) and any(end is node for node in own_files(sought)):
-            raise Fault(f"{output}: leads to a file of the store", USAGE)
-        there = tree.look(output) if tree.is_there(output) else None
-        found = sought.file()
-        if found is None:
-            return None
-        if isinstance(there, Folder):
-            raise System("Is a directory")
-        if isinstance(there, Link):
-            node = tree.look(output, True)
-            if isinstance(node, Folder):
-                raise System("Is a directory")
-            node.data = found
-        else:
-            mode, owner = (there.mode & 0o777, there.owner) if there else (0o666 & ~store.umask, None)
-            tree.put(output, File(found, mode, owner) if there else File(found, mode))
-    except System as refused:
-        raise Fault(f"{output}: {refused.words}", DEVICE) from None
-    return found
-
-
-def leads(tree, path):
-    try:
-        return tree.look(path, True) is not None
-    except System as refused:
-        if refused.words != ABSENT:
-            raise
-        return False
-
-
-def is_linked_into_store(sought, output):
-    """Whether the links of a path lead into the store."""
-    tree = sought.store.tree
-    if not tree.is_there(output) or not isinstance(tree.look(output), Link):
-        return False
-    end = tree.real(output, True)
-    node = tree.at.get(end)
-    return (node is None or isinstance(node, File)) and is_in_store(sought, above(end))
-
-
-def is_in_store(sought, folder):
-    """Whether a folder is one of the store, or below one that may have fragments anywhere."""
-    store, tree, naming = sought.store, sought.store.tree, sought.store.naming
-    real, disks = tree.real(folder, True), naming.disks("12-2-2")
-    tree.look(folder, True)
-    inside, roots = [], []
-    (inside if disks is not None or naming.depth == 0 else roots).append(tree.real(store.folder, True))
-    for name in disks if disks is not None else naming.folders("12-2-2", sought.name):
-        parts = name.split("/") if name else []
-        for level, count in enumerate(range(len(parts), 0, -1)):
-            try:
-                path = tree.real(store.path("/".join(parts[:count])), True)
-                tree.look(path)
-            except System:
-                continue
-            (inside if disks is not None and level else roots).append(path)
-    return real in inside or any(real == it or real.startswith(it + "/") for it in roots)
-
-
-def own_files(sought):
-    """The files that the store has of a stripe, and its digests."""
-    store, naming = sought.store, sought.store.naming
-    names = [SUMS]
-    for code in PLACES:
-        names += [*naming.fragments(code, sought.name), *naming.descriptions(code, sought.name)]
-    for name in names:
-        try:
-            yield store.look(name)
-        except System:
-            pass
-
-
 def verify(store, names):
     """The command `verify`."""
     done = 0
@@ -398,11 +380,22 @@ def verify(store, names):
         store.status = DEVICE if opened.has_unlisted else store.status
     for name in names:
         try:
-            read_stripe(store, name)
+            verify_file(store, name)
             done += 1
         except Fault as fault:
             store.note(fault)
     store.out.append(f"verified {counted(done)}; not as described: {len(names) - done}")
+
+
+def verify_file(store, name):
+    """Holds a file to its digest, as `read` would give it."""
+    newest = newest_of(store, name)
+    try:
+        read_stripe(store, newest)
+    except Fault:
+        # What is seen of the newer one is looked at again.
+        is_newer(store, name)
+        raise
 
 
 def counted(files):
@@ -448,6 +441,13 @@ class Copies:
             return "odd" if refused.words in (NO_FILE, IS_LINK) else refused
 
 
+def length_of(code, found):
+    """The length of a stripe's fragments, by their lengths alone: of several the greatest, if those that have it have checks."""
+    lengths = {it for it in found.values() if isinstance(it, int)}
+    greatest = max(lengths, default=None)
+    return greatest if len(lengths) < 2 or have_checks(code, survivors_of(found, greatest)) else None
+
+
 def listed(store, code, as_objects):
     """The command `list`."""
     opened, broken = Opened(store, code), 0
@@ -461,11 +461,7 @@ def listed(store, code, as_objects):
         for place in (place for place in PLACES[opened.code] if isinstance(found.get(place), tuple)):
             store.say(f"{store.naming.fragment(opened.code, name, place)}: can't be looked at: {found[place][1]}")
             is_device = True
-        lengths = {it for it in found.values() if isinstance(it, int)}
-        if size is None and len(lengths) > 1:
-            # Those of one length are there, and here none is counted.
-            raise Unclear("fragments of a file that isn't described have several lengths")
-        length = fragment_length(opened.code, size) if size is not None else lengths.pop() if len(lengths) == 1 else None
+        length = fragment_length(opened.code, size) if size is not None else length_of(opened.code, found)
         there = survivors_of(found, length)
         state = state_of(opened.code, there, are_whole)
         broken += state != "whole"

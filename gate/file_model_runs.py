@@ -12,7 +12,7 @@ from file_model_tree import difference, seen
 from file_model_writing import Encoding
 from stores import Program, hold
 
-STORE, SECONDS = "store", 60
+STORE, SECONDS = "store", 300
 
 
 class Command:

@@ -46,11 +46,11 @@ class Case:
         self.tree.at |= {"elsewhere": Folder(), "first/link": Link(self.names[0] or "gone"), "first/FIFO": Fifo()}
 
     def without_clashes(self, names):
-        """The names without those whose folders the program takes for something else, though the pages let files have them: SHA256SUMS,
-        which then can't be written, and a.file, which it takes for the description of a file a that earlier builds made."""
+        """The names without those whose folders the program takes for something else where files are read, though the pages let files have
+        them: a.file, which it takes for the description of a file a that earlier builds made."""
         if not self.naming.text.startswith("{stripe}/"):
             return names
-        return [name for name in names if name != SUMS and not (name.endswith(".file") and name.removesuffix(".file") in names)] or ["a"]
+        return [name for name in names if not (name.endswith(".file") and name.removesuffix(".file") in names)] or ["a"]
 
     def outside(self):
         """A new path beside the store."""

@@ -144,13 +144,22 @@ class Listing:
         self.files, self.blocked, self.named = {}, [], 0
         self.described, self.expected, self.doubtful, self.votes, self.voted = set(), set(), set(), [], {}
         self.leftovers, self.links, self.linked, self.unlisted, self.foreign = [], [], [], {}, []
-        own, self.disks = self.entries(""), self.naming.disks(code)
+        self.unread = []
+        self.add_all()
+        # Another copy may say more.
+        for stripe in self.unread:
+            if stripe not in self.described:
+                self.expect_described(stripe)
+
+    def add_all(self):
+        """Adds all that is in the store's folder, and below it where fragments are."""
+        own, self.disks = self.entries(""), self.naming.disks(self.code)
         if self.disks is None:
             self.add_below(own)
             return
         for name in own:
             if is_of_runs(name):
-                self.leftovers.append(store.path(name))
+                self.leftovers.append(self.store.path(name))
             else:
                 self.is_description(name)
         for disk in self.disks:
@@ -167,8 +176,18 @@ class Listing:
                 if depth == self.naming.depth or is_of_runs(last):
                     self.add(name)
                 elif last != "lost+found":
+                    self.add_first(name)
                     found += self.entries(name)
             names = found
+
+    def add_first(self, name):
+        """Notes the description that an earlier build made, if what has the name of one is no folder."""
+        try:
+            if folder_in(name) or described_name(name) is None or isinstance(self.store.look(name), Folder):
+                return
+        except System:
+            pass
+        self.is_description(name)
 
     def entries(self, inside):
         if not self.enters(inside):
@@ -272,10 +291,11 @@ class Listing:
         may_be_fragment, path = self.naming.read(self.code, name) is not None, self.store.path(name)
         if self.store.follows and isinstance(self.store.tree.look(path), Link):
             self.add_linked(path)
+        said, is_unread = None, False
         try:
             said = self.store.described(name)
-        except System:
-            said = None
+        except System as refused:
+            is_unread = not refused.is_absent and refused.words not in OF_LOST
         if said:
             if self.voted.setdefault(stripe, said.code) != said.code:
                 # The code of a stripe should be what its right description says, and here is what the one says that is met first.
@@ -286,10 +306,12 @@ class Listing:
             return True
         if stripe in self.described and not may_be_fragment:
             return True
-        if may_be_fragment:
-            return False
-        self.doubtful.add(stripe)
-        return True
+        if is_unread and not may_be_fragment:
+            self.unread.append(stripe)
+            return True
+        if is_unread or not may_be_fragment:
+            self.doubtful.add(stripe)
+        return not may_be_fragment
 
     def expect(self, stripe):
         self.named += 1
@@ -430,7 +452,7 @@ def is_text(name):
 class Opened:
     """A store that a command has opened which works on what is there."""
 
-    def __init__(self, store, code, writes=False):
+    def __init__(self, store, code, writes=False, needs_stripes=True):
         self.listing = listing = Listing(store, code or "12-2-2")
         listing.say_links()
         if writes:
@@ -452,9 +474,12 @@ class Opened:
             raise Fault(f"{store.folder}: has fragments of the code {other}: give --code {other}, or another folder")
         self.has_unlisted = listing.say_unlisted(self.code)
         is_empty = not listing.named
-        self.stripes, self.alone = listing.settled(self.code)
-        if is_empty or not self.stripes:
-            raise Fault(f"{store.folder}: no file is named as a fragment, {store.naming.text}: is this the store?")
+        self.store, (self.stripes, self.alone) = store, listing.settled(self.code)
+        if needs_stripes and (is_empty or not self.stripes):
+            raise self.no_stripes()
+
+    def no_stripes(self):
+        return Fault(f"{self.store.folder}: no file is named as a fragment, {self.store.naming.text}: is this the store?")
 
 
 def survivors_of(found, length):

@@ -4,9 +4,9 @@ from file_model_code import determine_all, fragments_of
 from file_model_names import (
     CODES, DATA, EACH, MOST_OF_DESCRIPTION, PLACES, STAGED, can_encode, description_of, digest, folder_in, is_of_runs,
 )
-from file_model_reading import Sought, counted, has_some, inode, is_whole, not_given, said_for_sure, shares_fragment
+from file_model_reading import Sought, believed, counted, has_some, inode, is_whole, not_given, said_for_sure, shares_fragment
 from file_model_store import DEVICE, Fault, Listing, Unclear
-from file_model_tree import ABSENT, NO_FOLDER, File, Folder, Link, System, below
+from file_model_tree import ABSENT, NO_FOLDER, File, Folder, System, below
 
 NO_NAME, NO_FOLDERS = "a stripe can't have this name", "isn't there: make this folder, or give --make-folders"
 TAKEN = "is there already, with other bytes: --replace replaces the file"
@@ -30,6 +30,9 @@ class Encoding:
         if not self.trusts:
             listing.refuse_foreign()
         listing.remove_leftovers()
+        for inside, words in listing.unlisted.items():
+            if words not in (ABSENT, NO_FOLDER):
+                store.note(Fault(f"{store.path(inside)}: {words}: what runs that were killed have left there stays", DEVICE))
         if listing.others(self.code) != "none":
             self.refuse_code(CODES[self.code == "6-2-2"])
         store.take_sums()
@@ -52,9 +55,7 @@ class Encoding:
             raise Fault(f"{path if self.name is None else name}: {NO_NAME}")
         data = self.source(path)
         if not can_encode(self.naming, self.code, name):
-            if self.given is not None:
-                raise Unclear("of standard input the name should be said, and the program says that of the file in which it is kept")
-            raise Fault(f"{path}: {NO_NAME}")
+            raise Fault(f"{path if self.name is None else self.name}: {NO_NAME}")
         if self.makes_folders:
             self.make_folders(name)
         self.finish(name, False)
@@ -64,7 +65,8 @@ class Encoding:
         except Fault as fault:
             if not self.replaces or fault.status == DEVICE:
                 raise
-            self.refuse_irregular(name)
+            self.refuse_irregular(self.code, name)
+            self.refuse_irregular_names(self.beyond(name, self.code))
             self.replace(name, data)
 
     def source(self, path):
@@ -101,7 +103,8 @@ class Encoding:
     def refuse_others(self, name, data):
         """Refuses a file beside another description, or a fragment at a place that the code hasn't."""
         store, described = self.store, description_of(data, self.code)
-        for copy in self.copies(name) + [f"{name}.file"] * (f"{name}.file" not in self.copies(name)):
+        own = self.own_description(name)
+        for copy in self.copies(name) + [own] * bool(own):
             if store.is_there(copy):
                 try:
                     said = store.described(copy)
@@ -128,8 +131,8 @@ class Encoding:
             self.refuse_folder(name)
         for name in names:
             if store.is_there(name) and not self.has(name, made[name]):
-                if store.follows and isinstance(self.tree.look(store.path(name)), Link):
-                    self.refuse_nothing(name)
+                if store.follows and self.leads_to_nothing(name):
+                    raise Fault(f"{name}: is a link to nothing, and nothing is encoded where it leads")
                 raise Fault(f"{name}: {TAKEN}")
         for name, content in [*made.items(), *((copy, line) for copy in self.copies(stripe))]:
             if not store.is_there(name):
@@ -153,13 +156,13 @@ class Encoding:
         except System as refused:
             raise Fault(f"{folder}: {NO_FOLDERS if refused.words == ABSENT else refused.words}", DEVICE) from None
 
-    def refuse_nothing(self, name):
-        """Leaves out a link to nothing that is followed: the fragment should be made there, and here the file is refused."""
+    def leads_to_nothing(self, name):
+        """Whether a name is that of a link which leads to nothing."""
         try:
             self.store.look(name)
         except System as refused:
-            if refused.is_absent:
-                raise Unclear("a fragment is a link to nothing") from None
+            return refused.is_absent
+        return False
 
     def has(self, name, data):
         """Whether these bytes are under a name."""
@@ -168,9 +171,12 @@ class Encoding:
         except System:
             return False
 
-    def refuse_irregular(self, stripe):
+    def refuse_irregular(self, code, stripe):
         """Refuses to replace what is no file, or too long for a description."""
-        store, fragments, copies = self.store, self.naming.fragments(self.code, stripe), self.copies(stripe)
+        self.refuse_irregular_names((self.naming.fragments(code, stripe), self.naming.descriptions(code, stripe)))
+
+    def refuse_irregular_names(self, names):
+        store, (fragments, copies) = self.store, names
         store.refuse_linked_names(fragments)
         store.refuse_linked_names(copies)
         for name in fragments + copies:
@@ -186,14 +192,14 @@ class Encoding:
         staged, disks = name + STAGED, self.naming.disks(self.code)
         if not self.makes_folders and not all(self.store.is_there(disk) for disk in disks or ()):
             raise Unclear("the folders of disks must be there, and which of them is said to be missing depends on the order of calls")
-        had_folders = any(self.store.is_there(folder) for folder in self.naming.folders(self.code, staged) if folder)
+        had_folders = any([self.store.is_there(folder) for folder in self.own_folders(self.code, staged, name)])
         try:
             self.make_folders(staged, self.naming.folders(self.code, name))
             self.encode_as(staged, data)
         except Fault:
             self.discard(staged)
             if not had_folders:
-                self.remove_own_folders(staged, name)
+                self.remove_own_folders(self.code, staged, name)
             raise
         self.finish(name, True)
 
@@ -207,23 +213,52 @@ class Encoding:
 
     def finish(self, name, is_new):
         """Ends what was begun to replace the file of a name, or takes it away."""
-        store, staged = self.store, name + STAGED
-        copies, fragments = self.copies(staged), self.naming.fragments(self.code, staged)
-        if not has_some(store, self.code, staged) and not any([store.is_there(copy) for copy in copies]):
-            return
-        own = self.own_description(name)
-        pairs = list(zip(fragments, self.naming.fragments(self.code, name))) + [(f"{staged}.file", own)] * bool(own)
-        store.refuse_linked_names(copies)
-        store.refuse_linked_names(name for name, _ in pairs)
+        store, naming, staged = self.store, self.naming, name + STAGED
+        code, folders = (self.code, self.code) if is_new else self.own_code(staged)
+        if has_some(store, code, staged) or any([store.is_there(copy) for copy in naming.descriptions(code, staged)]):
+            self.end(name, staged, code, is_new)
+            self.remove_own_folders(folders, staged, name)
+
+    def end(self, name, staged, code, is_new):
+        """The same where something was begun, which has this code."""
+        store, naming = self.store, self.naming
+        store.refuse_linked_names(naming.descriptions(code, staged))
+        store.refuse_linked_names(naming.fragments(code, staged))
         described = self.to_replace(name, staged, is_new)
         if described:
-            if len(DATA[described.code]) > len(DATA[self.code]):
-                self.refuse_code(described.code)
-            self.refuse_irregular(name)
-            self.give(pairs + self.mended(described, staged, name, pairs), copies, name)
+            code = described.code
+            if len(DATA[code]) > len(DATA[self.code]):
+                self.refuse_code(code)
+        own, beyond = self.own_description(name), self.beyond(name, code) if described else ([], [])
+        pairs = list(zip(naming.fragments(code, staged), naming.fragments(code, name))) + [(f"{staged}.file", own)] * bool(own)
+        copies = naming.descriptions(code, staged)
+        if described:
+            self.refuse_irregular(code, name)
+            self.refuse_irregular_names(beyond)
+            lost = self.mended(described, staged, name, pairs)
+            self.take(beyond[1])
+            self.take(beyond[0])
+            self.give(pairs + lost, copies, naming.descriptions(code, name))
         self.take(copies)
-        self.take(name for name, _ in pairs)
-        self.remove_own_folders(staged, name)
+        self.take(it for it, _ in pairs)
+
+    def own_code(self, stripe):
+        """The code of a stripe by its description, or by the names that are there; and the one by which it may have folders."""
+        described = believed(self.store, stripe)
+        if described:
+            return described.code, described.code
+        narrow, wide = (self.naming.fragments(code, stripe) + self.naming.descriptions(code, stripe) for code in CODES)
+        wide = [it for it in wide if it not in narrow]
+        # Fewer than three may be somebody else's.
+        is_wide = any(it.encode() in self.store.sums for it in wide) or 3 <= sum(map(self.store.is_there, wide))
+        return "12-2-2" if is_wide else self.code, "12-2-2"
+
+    def beyond(self, name, code):
+        """The names of a stripe's fragments and descriptions by its own code that it hasn't by another one."""
+        own, naming = self.own_code(name)[0], self.naming
+        fragments, copies = ([it for it in names(own, name) if it not in names(code, name)]
+                             for names in (naming.fragments, naming.descriptions))
+        return fragments, copies
 
     def own_description(self, stripe):
         """The description in the store's own folder that earlier builds made beside those of now, if it is one."""
@@ -287,13 +322,9 @@ class Encoding:
     def is_nothing(self, name, staged, said):
         """Whether descriptions are all that there is of what was begun, and can be: too few disks can be away to have the rest. The file
         itself can be read."""
-        for code in PLACES:
-            try:
-                if has_some(self.store, code, staged):
-                    return False
-            except Fault:
-                return False
         for described in said:
+            if has_some(self.store, described.code, staged):
+                return False
             away = [place for place in PLACES[described.code] if self.may_be_away(described.code, place, name, staged)]
             if determine_all(described.code, away):
                 return False
@@ -309,8 +340,10 @@ class Encoding:
     def mended(self, described, staged, name, pairs):
         """Writes the copies of a description that are lost. Gives those that stay lost, with those that go for that."""
         store, lost = self.store, []
-        rights = self.rights_of(self.copies(staged))
-        for copy, old in zip(self.copies(staged), self.copies(name)):
+        code, naming = described.code, self.naming
+        copies = naming.descriptions(code, staged)
+        rights = self.rights_of(copies)
+        for copy, old in zip(copies, naming.descriptions(code, name)):
             if store.is_there(copy) or self.says(old, described):
                 continue
             if any(folder_in(fragment) == folder_in(copy) and store.is_known(fragment) for fragment, _ in pairs):
@@ -342,7 +375,7 @@ class Encoding:
             mode &= node.mode
         return mode, found[0].owner
 
-    def give(self, pairs, copies, name):
+    def give(self, pairs, copies, old_copies):
         """Gives the files of what was begun the names of the old one's, the descriptions last, and writes the digests."""
         store = self.store
         for begun, old in pairs:
@@ -350,7 +383,7 @@ class Encoding:
                 self.give_one(begun, old)
             else:
                 self.take([old])
-        for begun, old in zip(copies, self.copies(name)):
+        for begun, old in zip(copies, old_copies):
             if store.is_there(begun):
                 self.give_one(begun, old)
         store.forget([*copies, *(begun for begun, _ in pairs)])
@@ -381,17 +414,22 @@ class Encoding:
         if odd is not None:
             raise Fault(f"{odd}: is no regular file, and isn't removed")
 
-    def remove_own_folders(self, stripe, other):
-        """Takes away the folders that are a stripe's own, if nothing is in them."""
-        others = self.naming.folders(self.code, other)
-        for folder in self.naming.folders(self.code, stripe):
+    def own_folders(self, code, stripe, other):
+        """The folders that a stripe has and another one hasn't, each after those in it."""
+        others = self.naming.folders(code, other)
+        for folder in self.naming.folders(code, stripe):
             while folder and not any(it == folder or it.startswith(folder + "/") for it in others):
-                path = self.store.path(folder)
-                try:
-                    self.store.refuse_linked(folder)
-                    is_folder = isinstance(self.tree.look(path), Folder)
-                except System:
-                    is_folder = False
-                if is_folder and not self.tree.names(path):
-                    self.tree.take(path)
+                yield folder
                 folder = folder_in(folder)
+
+    def remove_own_folders(self, code, stripe, other):
+        """Takes away the folders that are a stripe's own, if nothing is in them."""
+        for folder in self.own_folders(code, stripe, other):
+            path = self.store.path(folder)
+            try:
+                self.store.refuse_linked(folder)
+                is_folder = isinstance(self.tree.look(path), Folder)
+            except System:
+                is_folder = False
+            if is_folder and not self.tree.names(path):
+                self.tree.take(path)

@@ -269,8 +269,9 @@ class Judge:
                 found += WATCHERS if path.startswith("out") else []
             else:
                 found += ["out/report", path] if path == "out/real" else [path]
-        # A folder in which links end is named by these.
-        found += [name for name, end in self.links().items() if self.failed.kind == "look" and os.path.dirname(end) in self.failed.paths]
+        # A folder in which links end, and what they lead to, is named by these.
+        ends = {name: {end, os.path.dirname(end)} if self.failed.kind == "look" else {end} for name, end in self.links().items()}
+        found += [name for name, end in ends.items() if end & set(self.failed.paths)]
         named = [shown(name.removesuffix(KEPT)) for path in found for name in self.names_of(path)]
         return named + [shown(str(self.trial.place / path)) for path in found]
 
@@ -384,8 +385,9 @@ class Judge:
             self.hold(int(said[1]) - int(said[2]) == len(rows) - 1, f"{said[0]}, and the requests are {rows}")
 
     def left_of(self, lines):
-        """The lines of what is still left: with --to what can't be read is rebuilt elsewhere."""
-        return [line for line in lines if "--to" not in self.trial.words or not re.search(": can't be (?:looked at|read): ", line)]
+        """The lines of what is still left: with --to what can't be read is rebuilt elsewhere, and replaced if it has another length."""
+        may_be_rebuilt = {"--to", "--replace-damaged"} & set(self.trial.words)
+        return [line for line in lines if not may_be_rebuilt or not re.search(": can't be (?:looked at|read): ", line)]
 
     def has_lines(self):
         """Whether a repair or a scrub says in lines what it finds."""
@@ -400,7 +402,8 @@ class Judge:
 
     def met_and_right(self):
         """The fragments that were there, and count as lost since they, or their folder, couldn't be looked at."""
-        there = [path for path, entry in self.before.items() if entry.data == self.drawn.right.get(in_store(path))]
+        ends = {path: self.before.get(self.links().get(path, path)) for path in self.before if in_store(path) in self.drawn.right}
+        there = [path for path, entry in ends.items() if entry and entry.data == self.drawn.right[in_store(path)]]
         met = [f"store/{name}" for path in self.failed.paths for name in self.names_of(path)]
         return [path for path in there if any(path == other or path.startswith(f"{other}/") for other in [*self.failed.paths, *met])]
 

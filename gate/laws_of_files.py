@@ -5,11 +5,11 @@ import os
 import re
 
 import trees
-from call_classes import named_files
+from call_classes import class_of, named_files
 from drawn import STAGED, SUMS
 from excused import may_be_unsaid
 from failed_runs import is_unfinished
-from known_faults import READS, meets_fault_of_reading
+from known_faults import READS
 from laws import DEVICE, Judge, in_store, shown
 from stores import digest
 
@@ -71,14 +71,27 @@ class FileJudge(Judge):
     def hold_said(self):
         """Of files that are read also: what can't be read of one is left out, which is said, and it is read from the rest."""
         failed = self.failed
+        is_left_out = self.trial.words[0] == "encode" and failed.kind in READS and class_of(self) == "staged"
+        if is_left_out and self.is_as_whole and failed.said:
+            # So is what can't be read of what replaces a file.
+            self.hold_named()
+            return
+        if self.is_as_whole and not failed.said and self.is_of_a_needless_copy():
+            return
         if self.trial.words[0] not in ("read", "verify") or failed.kind not in READS or not self.is_of_files():
             super().hold_said()
             return
         is_whole = self.is_as_whole and failed.ran.out == self.trial.ended.out
         if is_whole and failed.said:
             self.hold_named()
-        elif not (is_whole and may_be_unsaid(self) or meets_fault_of_reading(self)):
+        elif not (is_whole and may_be_unsaid(self)):
             super().hold_said()
+
+    def is_of_a_needless_copy(self):
+        """Whether another copy of a description says that another file is there, so that this one isn't read."""
+        path = in_store(self.failed.paths[-1])
+        is_read = self.trial.words[0] == "encode" and self.failed.kind in ("open", "read") and class_of(self) == "description"
+        return is_read and f"{shown(path)}: is there already" not in self.failed.ran.err
 
     def is_of_files(self):
         """Whether the call that failed is of what a file is read from."""
@@ -88,7 +101,8 @@ class FileJudge(Judge):
         found = super().names()
         # A file that is read is named by its name, and an output by the path that is given.
         if self.trial.words[0] in ("read", "verify"):
-            found += [shown(name) for name in self.stripes_of(self.failed.paths) - {None}]
+            names = self.stripes_of(self.failed.paths) - {None}
+            found += [shown(name + ending) for name in names for ending in ("", STAGED)]
             # Its folder and those above are looked at too.
             found += [str(self.trial.place / "out/file")] if any(in_store(path) is None for path in self.failed.paths) else []
         for path in self.failed.paths:
@@ -96,6 +110,7 @@ class FileJudge(Judge):
                 found += [shown(str(self.trial.place / name)) for name in (os.path.dirname(path), "store", LIST)]
         # Of a folder that was made, the name.
         made = [path for path in self.after.keys() - self.before.keys() if self.after[path].kind == trees.FOLDER]
+        made += {os.path.dirname(f"store/{name}") for name in self.drawn.newest if STAGED in name}
         found += [shown(in_store(path) or path) for path in made]
         found += ["standard input"] if self.failed.paths[-1].startswith("pipe:") else []
         sources = [*self.drawn.sources.values()]
@@ -123,7 +138,7 @@ class FileJudge(Judge):
         if path == "out/end":
             return self.failed.ran.status == DEVICE
         if path == "out/file":
-            return self.is_kept_by_user(path) or has is not None and self.is_old(has.data)
+            return self.is_kept_by_user(path)
         if has is None and in_store(path) in self.drawn.begun and path.endswith((".file", ".file.copy")):
             # An old copy goes if the new one of what was begun can't be made.
             return True
@@ -175,17 +190,9 @@ class FileJudge(Judge):
         if said and files:
             self.hold(int(said[1]) + int(said[2]) == len(files), f"{said[0]}: of {len(files)} files")
 
-    def is_old(self, data):
-        """Whether this is the file that another one is to replace, which is read if that can't be looked at."""
-        name = self.trial.words[-1]
-        is_begun = any(STAGED in path for path in self.before)
-        return is_begun and self.failed.kind in READS and data == self.drawn.data.get(name)
-
     def hold_output_of_read(self):
         """What is written is the file, and all of it if the status says so."""
         data, written = self.trial.ended.out, self.failed.ran.out
-        if self.is_old(written.encode()):
-            return
         self.hold(data.startswith(written), "what isn't the file's was written")
         self.hold(self.failed.ran.status != 0 or written == data, "a part alone was written")
 

@@ -22,7 +22,7 @@ import refusals  # noqa: E402
 
 ROOT = pathlib.Path(__file__).resolve().parent.parent
 TESTS = ROOT / "crates/farm_lists_tests/out/farm_lists_tests_tests"
-SECONDS = 60
+SECONDS = 300
 
 # What a test ends its output with.
 ENDED = b"\ntest result: ok\n"

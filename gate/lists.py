@@ -13,7 +13,7 @@ import tempfile
 ROOT = pathlib.Path(__file__).resolve().parent.parent
 PROGRAM = ROOT / "crates/rebuild/out/rebuild"
 TEST = [ROOT / "crates/farm_lists_tests/out/farm_lists_tests_tests", "lists::read_of_standard_input"]
-SECONDS = 60
+SECONDS = 300
 
 # What a test ends its output with.
 ENDED = "\ntest result: ok\n"

@@ -21,7 +21,7 @@ WIDE = "x1 x2 x3 x4 x5 y0 y1 y2 y3 y4 y5 px py p0 p1"
 GREATEST = 65_536
 MOST_RECORDS = 4_096
 FEEDS = ["", ".feed1", ".feed2", ".feed3"]
-SECONDS = 120
+SECONDS = 300
 MEGABYTE = 1_000_000
 
 

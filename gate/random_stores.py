@@ -3,6 +3,7 @@ or something else, with digests and descriptions, and what else may be in such a
 
 import dataclasses
 import os
+import shutil
 
 from stripe_model_codes import DATA_COUNT, places_of
 from stripe_model_listing import NOBODY, WIDE
@@ -57,6 +58,8 @@ class Mix:
     user: float = 0
     bad_reports: float = 0
     foreign: float = 0
+    # How likely links lead to what other names lead to, and folders are links to others.
+    shared: float = 0
 
 
 def encoded(data, code):
@@ -94,6 +97,7 @@ class RandomStore:
         for name in stripes:
             self.lay(name, OTHER_CODES[self.code] if "{place}" in self.names and self.is_so(mix.mixed) else self.code)
         self.write_sums()
+        self.share_ends()
         self.harm_folders()
         self.add_strays()
         self.given_code = OTHER_CODES[self.code] if self.is_so(mix.other_code) else self.code
@@ -116,8 +120,6 @@ class RandomStore:
     def lay(self, name, code):
         """Lays a stripe, with all that is wrong with it."""
         choose, length = self.choose, self.choose.choice(self.mix.lengths)
-        # All fragments of a stripe have the same rights: by the page a rebuilt one gets those of another, but the program gives one that
-        # replaces the first in order those of what it replaces.
         rights = (choose.choice(self.rights), *choose.choice(((0, 0), (0, 0), (1, 2))))
         self.has_foreign = self.has_foreign or rights[1] != 0
         # A file of such a name isn't encoded.
@@ -130,6 +132,9 @@ class RandomStore:
         own = {self.pattern.name(name, place): some for place, some in fragments.items() if place in self.pattern.keys}
         for path, some in own.items():
             self.write(path, some, rights)
+        if self.mix.shared or self.is_so(0.2):
+            # One of them has rights of its own.
+            (self.store / choose.choice(sorted(own))).chmod(choose.choice(self.rights) | (0o600 if is_described else 0))
         if is_described:
             own |= self.lay_copies(name, description(data, code).encode(), rights)
         self.files |= own
@@ -320,10 +325,35 @@ class RandomStore:
             line = choose.choice(("no digest\n", line[:40] + "\n", text[:64] + " " + text[66:], "g" + text[1:]))
         return [*lines[:number], line, *lines[number + 1:]]
 
+    def share_ends(self):
+        """Has some names lead to what others lead to, and the folder of a disk or a stripe be another one."""
+        choose, names = self.choose, sorted(self.files)
+        if not self.mix.shared or not names:
+            return
+        (self.elsewhere / "alias").symlink_to(self.store)
+        for number in range(choose.choice((1, 1, 2, 3))):
+            name, other = choose.choice(names), choose.choice([*names, *names, "SHA256SUMS", "new.x0", f"{choose.choice(names)}.damaged"])
+            kind = choose.choice(("name", "alias", "file", "file", "nothing", "nothing"))
+            ends = {"name": self.store / other, "alias": self.elsewhere / "alias" / other}
+            end = ends.get(kind, self.elsewhere / f"shared-{number}")
+            if kind == "file":
+                end.write_bytes(choose.choice((self.files[name], self.files.get(other, b"other"), b"another")))
+            for path in {self.store / name, self.store / other} if kind in ("file", "nothing") else {self.store / name}:
+                if self.is_so(self.mix.shared) and path.parent.is_dir() and path != end and not path.is_dir():
+                    path.unlink(missing_ok=True)
+                    path.symlink_to(end)
+        folders = sorted({os.path.dirname(name) for name in names} - {"", "f"})
+        if len(folders) > 1 and self.is_so(self.mix.shared / 3):
+            one, other = (self.store / folder for folder in choose.sample(folders, 2))
+            if one.is_dir() and other.is_dir() and one not in other.parents and other not in one.parents:
+                shutil.rmtree(one)
+                one.symlink_to(other)
+
     def harm_folders(self):
         """Has a disk gone, or another thing in its place, and folders of stripes closed or elsewhere."""
         folders = self.pattern.disks() or sorted({os.path.dirname(name) for name in self.files} - {""})
         kinds = ("gone", "empty", "link", "file", "outer") if self.pattern.disks() else ("link",)
+        kinds += ("nothing", "loop", "circle") if self.mix.follow else ()
         kinds += ("closed", "read") if self.user == NOBODY else ()
         for folder in folders:
             path = self.store / folder
@@ -339,6 +369,12 @@ class RandomStore:
                 path.symlink_to(moved)
             elif kind == "file":
                 path.write_bytes(b"no folder")
+            elif kind in ("nothing", "loop"):
+                path.symlink_to("no-folder" if kind == "nothing" else path.name)
+            elif kind == "circle":
+                # Two links that lead to each other.
+                path.symlink_to(self.elsewhere / f"{moved.name}-back")
+                (self.elsewhere / f"{moved.name}-back").symlink_to(path)
             elif kind == "empty":
                 path.mkdir()
 

@@ -117,7 +117,7 @@ LARGE = 16 * MOST_QUEUE
 LARGE_IN_LANE = 2
 
 # A run that takes longer hangs, and a walk that is longer has no end.
-SECONDS = 20
+SECONDS = 300
 MOST = 5_000
 BATCH = 32
 

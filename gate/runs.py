@@ -50,7 +50,12 @@ class Preloaded:
             key = os.getpid(), threading.get_ident(), words[0]
             if key not in self.starts:
                 self.starts[key] = Start(words[0], *self.recorded()[1:])
-            return self.starts[key].run(words, settings, seconds, given, output)
+            try:
+                return self.starts[key].run(words, settings, seconds, given, output)
+            except BaseException:
+                # What it says after a run that failed may be of that one.
+                self.starts.pop(key).end()
+                raise
         path, record, environment = self.recorded()
         how = {"stdin": subprocess.DEVNULL} if given is None else {"input": given}
         try:
@@ -71,6 +76,11 @@ class Start:
         with other:
             self.process = subprocess.Popen([program], stdin=subprocess.DEVNULL, pass_fds=[other.fileno()], start_new_session=True,
                                             env=environment | {"FORK_RUNS": str(other.fileno())})
+
+    def end(self):
+        os.killpg(self.process.pid, signal.SIGKILL)
+        self.process.wait()
+        self.socket.close()
 
     def run(self, words, settings, seconds, given, output):
         self.record[:] = self.none
@@ -100,7 +110,6 @@ class Start:
         while left:
             ready = waits.poll(max(0, 1_000 * (end - time.monotonic())))
             if not ready:
-                os.killpg(self.process.pid, signal.SIGKILL)
                 raise subprocess.TimeoutExpired(words, seconds)
             for file, _ in ready:
                 data = os.read(file, MOST_GIVEN)

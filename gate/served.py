@@ -12,7 +12,7 @@ import tempfile
 ROOT = pathlib.Path(__file__).resolve().parent.parent
 PROGRAM = ROOT / "crates/rebuild/out/rebuild"
 TESTS = ROOT / "crates/farm_tests/out/farm_tests_tests"
-SECONDS = 60
+SECONDS = 300
 
 HEADER = "order,stripe,target,length,survivors\n"
 CODED_HEADER = "order,stripe,target,length,survivors,code\n"

@@ -12,7 +12,7 @@ sys.path.append(str(ROOT / "tools"))
 import reference  # noqa: E402
 
 TESTS = ROOT / "crates/lrc_tests/out/lrc_tests_tests"
-SECONDS = 120
+SECONDS = 300
 
 # What a test ends its output with.
 ENDED = "\ntest result: ok\n"

@@ -27,7 +27,7 @@ sys.path.append(str(ROOT / "tools"))
 from store import stripe  # noqa: E402
 
 PROGRAM = ROOT / "crates/rebuild_store/out/rebuild_store"
-SECONDS = 60
+SECONDS = 300
 passed = 0
 
 MORE = "\n\nFor more information, try '--help'.\n"

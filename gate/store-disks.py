@@ -47,7 +47,7 @@ def hold(holds, what):
 
 def run(*words, status, program=None, **how):
     """Runs the program, holds its status to this one, and gives all that it says."""
-    ended = subprocess.run([program or PROGRAM, *map(str, words)], stdin=subprocess.DEVNULL, capture_output=True, timeout=60, **how)
+    ended = subprocess.run([program or PROGRAM, *map(str, words)], stdin=subprocess.DEVNULL, capture_output=True, timeout=300, **how)
     said = (ended.stdout + ended.stderr).decode(errors="replace")
     hold(ended.returncode == status, f"{' '.join(map(str, words))}: status {ended.returncode}, not {status}: {said}")
     return said
@@ -234,6 +234,30 @@ def test_unmounted(place, choose):
     said = run("repair", "--replace-damaged", *words, place, status=3)
     there = {path.name: path.read_bytes() for path in (place / "disk3").iterdir()}
     hold(there == {"source": b"other", "source.file": b"other"}, f"{sorted(there)}: {said}")
+
+
+def test_unmounted_in_a_dry_run(place, choose):
+    """A dry run says of fragments and descriptions where no disk is mounted what a repair does: they are left, also damaged ones."""
+    words = ["--code", "6-2-2", "--names", "planned{shard}/{stripe}"]
+    source = place / "source"
+    source.write_bytes(choose.randbytes(5_000))
+    for number in range(10):
+        mount(place / f"planned{number}", 512 * KIB)
+        (place / f"planned{number}").chmod(0o755)
+    run("encode", *words, place, source, status=0)
+    system("umount", place / "planned3")
+    for files in ({}, {"source": b"other", "source.file": b"other"}):
+        for name, data in files.items():
+            (place / "planned3" / name).write_bytes(data)
+        ended = []
+        for more in (["--dry-run"], []):
+            said = run("repair", "--replace-damaged", *more, *words, place, status=3)
+            for name in ("source", "source.file"):
+                hold_named(said, f"planned3/{name}", "No medium found")
+            ended.append(sorted(line for line in said.splitlines() if "planned3/" in line))
+            there = {path.name: path.read_bytes() for path in (place / "planned3").iterdir()}
+            hold(there == files and "can be made" not in said and "would be rebuilt" not in said, f"{sorted(there)}: {said}")
+        hold(ended[0] == ended[1], f"a dry run says {ended[0]}, and a repair {ended[1]}")
 
 
 def test_unmounted_behind_links(place, choose):
@@ -452,8 +476,8 @@ def main(program):
     PROGRAM = pathlib.Path(program or PROGRAM).resolve()
     choose = random.Random(2026)
     tests = (test_full, test_most_lost_first, test_read_only, test_links, test_long_names, test_leftover_folder, test_unmounted,
-             test_unmounted_behind_links, test_unmounted_beside_faults, test_memory_beside_another_run, test_missing_beside_mounted,
-             test_other_users, test_owner, test_cut, test_disks_alike)
+             test_unmounted_in_a_dry_run, test_unmounted_behind_links, test_unmounted_beside_faults, test_memory_beside_another_run,
+             test_missing_beside_mounted, test_other_users, test_owner, test_cut, test_disks_alike)
     with tempfile.TemporaryDirectory() as scratch:
         place = pathlib.Path(scratch)
         place.chmod(0o755)

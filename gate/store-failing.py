@@ -352,9 +352,10 @@ def each_failing(place, kept, chosen):
             shutil.rmtree(store)
             shutil.copytree(kept, store)
             ended = calls.run(words, number, EIO, "path")
-            is_ended = ended.status == 1 and "is there already, with other bytes" in ended.err
-            hold(is_ended or ended.status == 3 and ERROR in ended.err, f"call {number}: {ended.text()}")
-            if is_ended:
+            is_refused = ended.status == 1 and "is there already, with other bytes" in ended.err
+            hold(is_refused or ended.status == 3 and ERROR in ended.err, f"call {number}: {ended.text()}")
+            # What can't be read may be what refuses the other file.
+            if is_refused or not any(STAGED in name for name in there(store)):
                 yield [path.removeprefix(f"{store}/") for path in ended.paths], ended.kind, store
     shutil.rmtree(store)
 
@@ -414,7 +415,7 @@ def test_lost_descriptions_that_cannot_be_made_again(place, choose):
             shutil.rmtree(store)
             shutil.copytree(kept, store)
             ended = calls.run(words, number, EIO)
-            hold(ended.status == 1 and ERROR in ended.err, f"call {number}, {kind}: {ended.text()}")
+            hold(ended.status == 3 and ERROR in ended.err, f"call {number}, {kind}: {ended.text()}")
             found = {name: data for name, data in there(store).items() if name.startswith("a.file")}
             hold(found in (right, right | {"a.file.copy": right["a.file"]}), f"call {number}, {kind}: {found}")
             hold(read_back(store, place) == new and wrong_sums(store) == [], f"call {number}, {kind}: not the new file")
@@ -426,9 +427,10 @@ def test_lost_descriptions_that_cannot_be_made_again(place, choose):
             shutil.rmtree(store)
             shutil.copytree(kept, store)
             ended, found = calls.run(words, number, EIO), there(store)
-            # What can't be looked at is met before anything is written, or isn't needed.
+            # What can't be looked at is met before anything is written, or isn't needed, or is said.
             is_left = ended.status == 3 and ERROR in ended.err and found == there(kept)
-            hold(is_left or (ended.status, found.get("a.file.copy")) == (1, right["a.file"]), f"call {number}: {ended.text()}")
+            is_said = ended.status == 1 or ended.status == 3 and ERROR in ended.err
+            hold(is_left or is_said and found.get("a.file.copy") == right["a.file"], f"call {number}: {ended.text()}")
 
 
 def test_replacement_whose_folders_cannot_be_made(place, choose):

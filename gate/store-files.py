@@ -40,7 +40,7 @@ STAGED = ".rebuild-store-new"
 # What a run that was killed has left: the digits are at random.
 LEFTOVER = ".rebuild-store-0123456789abcdef"
 PLACES = ("x0", "x1", "x2", "y0", "y1", "y2", "px", "py", "p0", "p1")
-SECONDS = 120
+SECONDS = 300
 passed = 0
 
 
@@ -940,7 +940,7 @@ def test_replacement_that_lost_its_descriptions(place, choose):
                 if pathlib.Path(ended.paths[0]).parent == again / f"disk{full}":
                     break
             hold("No space left on device" in ended.err, ended.text())
-        hold(ended.status == 1 and "is there already, with other bytes" in ended.err, ended.text())
+        hold(ended.status == (1 if full is None else 3) and "is there already, with other bytes" in ended.err, ended.text())
         files = there(again)
         wanting = [it for it in copies if files.get(it) != description_of(new)]
         hold(wanting == [f"disk{it}/a.file" for it in (full, 7) if it is not None], f"{full}: {wanting}")
@@ -2894,6 +2894,8 @@ def test_memory_that_is_refused_meanwhile(place, choose):
                                                 (lost, "remove", "a", 0, b"none")):
         # Until then it does what it does for any file.
         begin, end = one(store, command, none.name if given == "a" else none).allocations, one(store, command, given).allocations
+        # Of a file that isn't there more names may be looked at before that is said.
+        begin = min(begin, end - 50)
         ended = [one(store, command, given, number) for number in range(begin - 10, end + 1)]
         odd = [ran.text() for ran in ended if not is_for_memory(ran, status, said)]
         hold(not odd and 4 in {ran.status for ran in ended}, f"{store.name}, {command}: {len(odd)} of {len(ended)} runs: {odd[:2]}")

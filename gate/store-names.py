@@ -17,7 +17,7 @@ import tempfile
 ROOT = pathlib.Path(__file__).resolve().parent.parent
 PROGRAM = ROOT / "crates/rebuild_store/out/rebuild_store"
 TESTS = ROOT / "crates/store_tests/out/store_tests_tests"
-SECONDS = 60
+SECONDS = 300
 passed, failed = 0, []
 
 

@@ -16,7 +16,7 @@ import threading
 sys.dont_write_bytecode = True
 import refusals  # noqa: E402
 from faults import Calls  # noqa: E402
-from stores import Program, description, digest, hold, lay, run, source, there, try_all, write_sums  # noqa: E402
+from stores import STAGED, Program, begin, description, digest, hold, lay, lay_files, run, source, there, try_all, write_sums  # noqa: E402
 
 DISKS = ["--names", "disk{shard}/{stripe}", "--code", "6-2-2"]
 LEFTOVER = ".rebuild-store-0123456789abcdef"
@@ -242,6 +242,127 @@ def test_replacement_makes_no_folder_of_a_disk(place, choose):
     run("encode", "--make-folders", *names, store, source(place, "b", data), status=0)
     run("encode", "--replace", *names, store, source(place, "b", choose.randbytes(700)), status=0)
     hold(sorted(path.name for path in store.iterdir()) == ["SHA256SUMS", "b"], f"{sorted(there(store))}")
+
+
+def test_unread_file_is_no_other_file(place, choose):
+    """What can't be read of a file in the store isn't taken for another file's: it is said, and the file isn't encoded or replaced."""
+    first, store, path, calls, tried = place / "first", place / "store", place / "a", Calls(place, forks=True), set()
+    old, new = choose.randbytes(700), choose.randbytes(700)
+    run("encode", first, source(place, "a", old), status=0)
+    for is_described, data, words in ((True, old, []), (False, old, ["--replace"]), (False, new, []), (False, new, ["--replace"])):
+        path.write_bytes(data)
+        before = {name: data for name, data in there(first).items() if is_described or ".file" not in name}
+        command = [Program.path, "encode", *words, store, path]
+        shutil.rmtree(store, ignore_errors=True)
+        lay_files(store, before)
+        kinds = calls.run(command).kinds
+        for number in [number for number, kind in enumerate(kinds, 1) if kind == "open"]:
+            shutil.rmtree(store)
+            lay_files(store, before)
+            ended = calls.run(command, number, errno.EIO, "path")
+            name = os.path.basename(ended.paths[-1])
+            if name in before and name != "SHA256SUMS":
+                tried.add(name)
+                hold(ended.status == 3 and f"{store}/{name}: {os.strerror(errno.EIO)}\n" in ended.err, ended.text())
+                hold(there(store) == before, f"{sorted(there(store))}: {ended.text()}")
+    hold(tried == set(there(first)) - {"SHA256SUMS"}, f"{sorted(tried)}")
+
+
+def test_strangers_of_the_other_code(place, choose):
+    """What has a name that the (12,2,2) code alone gives a file isn't a (6,2,2) file's: it stays where that is taken out or replaced, and
+    also if nothing describes the file, unless there are three such names."""
+    old, new, stranger = choose.randbytes(900), choose.randbytes(800), b"stranger"
+    shards = ["--names", "{stripe}.{shard}", "--code", "6-2-2"]
+    for names, own in (([], "x5"), (shards, "12")):
+        store, strangers = place / f"store-{own}", {f"a.{own}": stranger, f"a{STAGED}.{own}": stranger}
+        run("encode", *names, store, source(place, "b", old), status=0)
+        others = there(store)
+        run("encode", *names, store, source(place, "a", old), status=0)
+        begin(place, store, new, *names)
+        lay_files(store, strangers)
+        run("remove", *names, store, "a", status=0)
+        hold(there(store) == others | strangers, f"{own}: {sorted(there(store))}")
+        run("remove", *names, store, "a", status=1)
+        hold(there(store) == others | strangers, f"{own}: {sorted(there(store))}")
+        for name in strangers:
+            (store / name).unlink()
+    for has_begun in (True, False):
+        run("encode", *shards, store, source(place, "a", old), status=0)
+        if has_begun:
+            begin(place, store, new, *shards)
+        lay_files(store, strangers)
+        run("encode", "--replace", *shards, store, source(place, "a", new), status=0)
+        run("verify", *shards[:2], store, "a", status=0)
+        left = {name: data for name, data in there(store).items() if data == stranger}
+        hold(left == strangers, f"{sorted(left)}")
+        run("remove", *shards, store, "a", status=0)
+        run("remove", *shards, store, "a", status=1)
+        for name in strangers:
+            (store / name).unlink()
+
+
+def test_all_of_a_file_of_the_other_code(place, choose):
+    """In a store of the (6,2,2) code all sixteen fragments of a (12,2,2) file go, also if nothing describes it any more."""
+    store, wide, data = place / "store", place / "wide", choose.randbytes(900)
+    run("encode", store, source(place, "b", data), status=0)
+    before = there(store)
+    run("encode", "--code", "12-2-2", wide, source(place, "a", data), status=0)
+    (wide / "SHA256SUMS").unlink()
+    for is_described in (True, False):
+        for ending in ("", STAGED):
+            lay_files(store, {name.replace("a.", f"a{ending}.", 1): some for name, some in there(wide).items()})
+            run("remove", store, "a", status=0)
+            hold(there(store) == before, f"{is_described}, {ending}: {sorted(there(store))}")
+        if is_described:
+            (wide / "a.file").unlink()
+            (wide / "a.file.copy").unlink()
+
+
+def test_killed_removal_is_ended(place, choose):
+    """The same command again takes away what a `remove` has left that was killed, in a store of this file alone too, and ends with 0 if
+    that was more than folders."""
+    calls = Calls(place, forks=True)
+    for number, (pattern, code) in enumerate((("{stripe}.{place}", "6-2-2"), ("{stripe}/{place}", "12-2-2"),
+                                              ("{stripe}/d{place}/f", "6-2-2"), ("{place}/{stripe}", "12-2-2"))):
+        store, names = place / f"store-{number}", ["--names", pattern, "--code", code]
+        run("encode", "--make-folders", *names, store, source(place, "a", choose.randbytes(300)), status=0)
+        shutil.copytree(store, whole := place / f"whole-{number}")
+        words = [Program.path, "remove", *names, store, "a"]
+        kinds = calls.run(words).kinds
+        for at, kind in enumerate(kinds, 1):
+            if kind in ("rename", "unlink", "rmdir", "sync"):
+                shutil.rmtree(store)
+                shutil.copytree(whole, store)
+                ended = calls.run(words, at, "kill")
+                run(*words[1:], status=0 if set(there(store)) - {"SHA256SUMS"} else 1)
+                left = [path for path in store.rglob("*") if "a" in path.relative_to(store).parts or path.name.startswith("a.")]
+                hold(not left, f"{pattern}: {sorted(left)}: {ended.text()}")
+
+
+def test_folders_of_other_files(place, choose):
+    """The folder of a file isn't the description of another one, and none gets that of the digests."""
+    store, names = place / "store", ["--names", "{stripe}/{place}"]
+    run("encode", "--make-folders", *names, store, source(place, "a.file", choose.randbytes(300)), status=0)
+    run("encode", "--make-folders", *names, store, source(place, "a", choose.randbytes(200)), status=0)
+    before = there(store)
+    said = run("encode", "--make-folders", *names, store, source(place, "SHA256SUMS", b"digests"), status=1)
+    hold("SHA256SUMS: a stripe can't have this name\n" in said and there(store) == before, said)
+    hold("SHA256SUMS: is no file of the store" in run("remove", *names, store, "SHA256SUMS", status=1), "it is removed")
+    run("encode", *names, store, source(place, "a", choose.randbytes(200)), "--replace", status=0)
+    run("remove", *names, store, "a", status=0)
+    hold(sorted(path.name for path in store.iterdir()) == ["SHA256SUMS", "a.file"], f"{sorted(there(store))}")
+
+
+def test_name_of_what_replaces_a_file(place, choose):
+    """No file gets a name of those that replace others, which is said by the name that was given."""
+    store, name = place / "store", f"a{STAGED}"
+    run("encode", store, source(place, "a", choose.randbytes(300)), status=0)
+    before = there(store)
+    for given in ("-", place / "a"):
+        said = run("encode", "--as", name, store, given, status=1)
+        hold(f"rebuild-store: {name}: a stripe can't have this name\n" in said and there(store) == before, said)
+    for command in ("read", "verify", "remove"):
+        hold(f"{name}: is no file of the store {store}\n" in run(command, store, name, status=1), command)
 
 
 if __name__ == "__main__":

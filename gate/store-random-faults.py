@@ -2,10 +2,10 @@
 """Tries rebuild-store where the system fails, over small stores of random states: with each a command is run whole, and then some of its
 calls fail, each in a run of its own, which is held to what the manual pages say of all of them.
 
-    store-random-faults.py [PROGRAM [TEST]]
+    store-random-faults.py [PROGRAM [TEST [SEED [COUNT]]]]
 
 laws.py has what is held, excused.py the calls whose failure may be passed over. A fault names the seed of the store, the command and the
-call."""
+call. With SEED that store alone is tried, or COUNT from it on; the calls that fail in it may be others then."""
 
 import collections
 import random
@@ -19,7 +19,7 @@ import drawn_words  # noqa: E402
 import faults  # noqa: E402
 from failed_runs import Failed, Trial  # noqa: E402
 from laws_of_files import judge_of  # noqa: E402
-from stores import Fault, try_all  # noqa: E402
+from stores import Fault, Program, try_all  # noqa: E402
 
 CALLS = 10
 
@@ -43,7 +43,7 @@ def try_store(place, seed, draw, calls, seen):
 def try_stores(place, name, stores, calls=CALLS):
     """Tries so many stores."""
     seen = collections.Counter()
-    for number in range(stores):
+    for number in Program.seeds or range(stores):
         try_store(place, f"{name} {number}", DRAWS[name], calls, seen)
 
 
@@ -97,4 +97,4 @@ def test_lost(place, _choose):
 
 
 if __name__ == "__main__":
-    try_all("store-random-faults", globals(), *sys.argv[1:3])
+    try_all("store-random-faults", globals(), *sys.argv[1:])

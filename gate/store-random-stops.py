@@ -2,11 +2,12 @@
 """Stops rebuild-store in the middle, over small stores of random states: with each a command is run whole, and then is refused some of its
 allocations, or killed before some of its calls, each in a run of its own.
 
-    store-random-stops.py [PROGRAM [TEST]]
+    store-random-stops.py [PROGRAM [TEST [SEED [COUNT]]]]
 
 A run that is refused memory says so, or does and says what the whole one does. Where a run was stopped each path has what it had before or
 what it has after the whole run, but for what is unfinished, which the same command again takes away; and then there is what the whole run
-leaves. A fault names the seed of the store, the command and where it was stopped."""
+leaves. A fault names the seed of the store, the command and where it was stopped. With SEED that store alone is tried, or COUNT from it
+on."""
 
 import collections
 import functools
@@ -23,7 +24,7 @@ import refusals  # noqa: E402
 import trees  # noqa: E402
 from drawn import KEPT, STAGED, SUMS  # noqa: E402
 from failed_runs import Trial, is_unfinished  # noqa: E402
-from stores import Fault, hold, try_all  # noqa: E402
+from stores import Fault, Program, hold, try_all  # noqa: E402
 
 NO_MEMORY = 4
 LINE = "rebuild-store: out of memory"
@@ -108,10 +109,8 @@ class Stopped(Trial):
         if path == f"store/{SUMS}":
             # Files that a run has encoded which was killed may have no lines.
             return bool(lines_in(has) - lines_in(will))
-        # Damage may be seen that wasn't, since more is read; and of a file that is gone an empty folder may stay, which nothing takes away.
-        is_kept = path.endswith(KEPT) and has == self.before.get(path.removesuffix(KEPT))
-        is_empty = has == self.before.get(path) and has.kind == trees.FOLDER and not any(it.startswith(f"{path}/") for it in then)
-        return not is_kept and not (self.words[0] == "remove" and is_empty)
+        # Damage may be seen that wasn't, since more is read.
+        return not (path.endswith(KEPT) and has == self.before.get(path.removesuffix(KEPT)))
 
 
 class Refused(Stopped):
@@ -171,7 +170,7 @@ def try_store(place, seed, draw, kind, seen):
 def try_stores(place, name, draw, stores):
     """Tries so many stores, each once with refused memory and once with kills."""
     seen = collections.Counter()
-    for number in range(stores):
+    for number in Program.seeds or range(stores):
         for kind in (Refused, Killed):
             try_store(place, f"{name} stopped {number}", draw, kind, seen)
 
@@ -222,4 +221,4 @@ def test_remove(place, _choose):
 
 
 if __name__ == "__main__":
-    try_all("store-random-stops", globals(), *sys.argv[1:3])
+    try_all("store-random-stops", globals(), *sys.argv[1:])

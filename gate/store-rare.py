@@ -25,7 +25,7 @@ from stores import (  # noqa: E402
 PLACES = ("x0", "x1", "x2", "y0", "y1", "y2", "px", "py", "p0", "p1")
 NO_NAME = "a stripe can't have this name"
 TOO_LITTLE = "too little of it is there to replace a file"
-SECONDS = 60
+SECONDS = 300
 # Runs a command that sees this table of mounts, and nothing else of what the system says of processes.
 WITH_TABLE = ("unshare", "--mount", *(["--user", "--map-root-user"] if os.geteuid() else []), "sh", "-c",
               'mount -t tmpfs tmpfs /proc && mkdir /proc/self && printf %s "$0" > /proc/self/mountinfo || exit 77; exec "$@"')
@@ -67,20 +67,19 @@ def test_begun_that_cannot_be_read(place, choose):
 
 
 def test_begun_beside_a_disk_of_the_wider_code(place, choose):
-    """Descriptions of what was begun stay while a disk can't be looked at that may have fragments of it by the wider code, and go after
-    that."""
+    """Descriptions of what was begun go by the code that they say, also beside a disk that can't be looked at and may have fragments of the
+    wider code alone; that is said."""
     names, old, new = ["--names", "{place}/{stripe}", "--code", "6-2-2"], choose.randbytes(1_000), choose.randbytes(1_500)
     store, file = place / "store", source(place, "a", old)
     run("encode", "--make-folders", *names, store, file, status=0)
     files = there(store)
-    for each in ("x0", "y1"):
-        (store / each / f"a{STAGED}.file").write_text(description(new))
     for each in ("x3", "y5"):
+        for disk in ("x0", "y1"):
+            (store / disk / f"a{STAGED}.file").write_text(description(new))
         (store / each).symlink_to(each)
-        before = all_of(store)
-        said = run("encode", *names, store, file, status=1)
-        hold(TOO_LITTLE in said and all_of(store) == before, f"{each}: {said}{sorted(all_of(store))}")
+        said = run("encode", *names, store, file, status=3)
         (store / each).unlink()
+        hold(f"{each}/a: {os.strerror(errno.ELOOP)}\n" in said and all_of(store) == files, f"{each}: {said}{sorted(all_of(store))}")
     run("encode", *names, store, file, status=0)
     hold(all_of(store) == files, f"{sorted(all_of(store))}")
 
@@ -94,19 +93,17 @@ def test_begun_where_the_old_file_cannot_be_looked_at(place, _choose):
     for each in PLACES[1:]:
         (store / each / "a").rename(store / each / "away")
         (store / each / "a").symlink_to("a")
-    without = all_of(store)
     begun.mkdir()
     (begun / f"a{STAGED}.file").write_text(description(b"new"))
-    shutil.copytree(begun, place / "begun")
     before = all_of(store)
-    said = run("encode", *names, store, file, status=1)
-    hold(TOO_LITTLE in said and all_of(store) == before, f"{said}{sorted(all_of(store))}")
-    # A folder that has the description, and nothing else of what was begun, has no more of it either.
+    said = run("encode", *names, store, file, status=3)
+    hold(os.strerror(errno.ELOOP) in said and all_of(store) == before, f"{said}{sorted(all_of(store))}")
+    # Where a folder has the description, and nothing else of what was begun, the old file isn't seen either.
     for each in PLACES[1:]:
         shutil.copytree(begun, store / each / begun.name)
+    before = all_of(store)
     said = run("encode", *names, store, file, status=3)
-    hold("Too many levels of symbolic links" in said and all_of(store) == without, f"{said}{sorted(all_of(store))}")
-    shutil.copytree(place / "begun", begun)
+    hold(os.strerror(errno.ELOOP) in said and all_of(store) == before, f"{said}{sorted(all_of(store))}")
     for each in PLACES[1:]:
         (store / each / "a").unlink()
         (store / each / "away").rename(store / each / "a")

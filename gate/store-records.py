@@ -15,7 +15,7 @@ import sys
 import tempfile
 
 PROGRAM = "crates/rebuild_store/out/rebuild_store"
-SECONDS = 60
+SECONDS = 300
 PLACES = {code: [*(f"{group}{number}" for group in "xy" for number in range(many)), "px", "py", "p0", "p1"]
           for code, many in (("6-2-2", 3), ("12-2-2", 6))}
 DISKS = ["--names", "disk{shard}/{stripe}", "--code", "6-2-2"]

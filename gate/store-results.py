@@ -29,7 +29,7 @@ from store import stripe  # noqa: E402
 
 PROGRAM = ROOT / "crates/rebuild_store/out/rebuild_store"
 WORDS_OF_ERRORS = [ROOT / "crates/store_tests/out/store_tests_tests", "errors::words_of_errors"]
-SECONDS = 60
+SECONDS = 300
 HEADER = ["stripe", "place", "outcome", "detail"]
 # Without these and another one as few fragments survive as it takes.
 SPARE = ("y0", "p0", "p1")

@@ -46,7 +46,7 @@ HEADER = "stripe,place,outcome,detail\n"
 # F_SETPIPE_SZ, which fcntl of Python 3.9 has not.
 SET_PIPE_SIZE = 1_031
 USER, OTHER = 65_534, 1_234
-SECONDS = 60
+SECONDS = 300
 passed = 0
 
 

@@ -18,7 +18,7 @@ sys.path.append(str(ROOT / "tools"))
 from faults import RECORD_SIZE  # noqa: E402
 from store import stripe  # noqa: E402
 
-SECONDS = 120
+SECONDS = 300
 STAGED = ".rebuild-store-new"
 
 
@@ -31,9 +31,9 @@ class Skipped(Exception):
 
 
 class Program:
-    """The program that is tried, and how many checks of it have passed."""
+    """The program that is tried, how many checks of it have passed, and the seeds that random tests try, if others than their own."""
 
-    path, passed = ROOT / "crates/rebuild_store/out/rebuild_store", 0
+    path, passed, seeds = ROOT / "crates/rebuild_store/out/rebuild_store", 0, None
 
 
 def hold(holds, what):
@@ -141,9 +141,12 @@ def tried(place, test):
     return Program.passed, fault, left_out
 
 
-def try_all(script, found, program=None, only=""):
-    """Runs the tests among what a script has, side by side, and ends with status 1 if one fails."""
+def try_all(script, found, program=None, only="", seed=None, count=1):
+    """Runs the tests among what a script has, side by side, and ends with status 1 if one fails. With a seed random ones try so many
+    stores from it on."""
     Program.path = pathlib.Path(program or Program.path).resolve()
+    if seed is not None:
+        Program.seeds = range(int(seed), int(seed) + int(count))
     tests = [found[only]] if only in found else [test for name, test in found.items() if name.startswith("test_") and only in name]
     with tempfile.TemporaryDirectory() as scratch, multiprocessing.get_context("fork").Pool(maxtasksperchild=1) as pool:
         place = pathlib.Path(scratch)

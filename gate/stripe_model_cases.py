@@ -229,9 +229,7 @@ class Case:
         self.run(self.options("lost"))
         for _ in range(2):
             given = self.repair_options()
-            # A dry run says of a fragment that can't be read that it would be replaced, which a repair doesn't do: that isn't tried.
-            if not (given["replace"] and self.laid.user):
-                self.run(self.options("repair", dry=True, **given))
+            self.run(self.options("repair", dry=True, **given))
             self.run(self.options("repair", **given))
             self.laid.harm_more()
             self.now = None
@@ -327,19 +325,23 @@ class Case:
             names = os.listdir(folder) if os.path.isdir(folder) else []
             own = [f"{folder}/{name}" for name in names if OF_RUNS.fullmatch(name) and self.is_left(name, options)]
             paths += [path for path in own if os.path.realpath(path) not in map(os.path.realpath, paths)]
+        others = {}
         for path in paths:
-            self.expect_removed(run, path, options)
+            others.setdefault(os.path.realpath(path), []).append(path)
+        for same in others.values():
+            self.expect_removed(run, same, options)
 
-    def expect_removed(self, run, path, options):
-        """What has the name of a lock and other bytes stays, and what can't be removed."""
+    def expect_removed(self, run, paths, options):
+        """What has the name of a lock and other bytes stays, and what can't be removed. A file is named by one of its paths."""
+        path = paths[0]
         is_lock = "part-" not in os.path.basename(path) or IS_LOCK.fullmatch(file_at(path).data)
         if not is_lock:
-            run.expected.say(f"{path}: has the name of a lock and isn't one")
+            run.expected.say(*(f"{path}: has the name of a lock and isn't one" for path in paths))
         elif not has_right(os.path.dirname(path), options.user, 3):
-            run.expected.say(f"{path}: is left over, and can't be removed: {os.strerror(13)}")
+            run.expected.say(*(f"{path}: is left over, and can't be removed: {os.strerror(13)}" for path in paths))
             run.has_left = True
         else:
-            run.expected.say(f"{path}: {REMOVED}")
+            run.expected.say(*(f"{path}: {REMOVED}" for path in paths))
             run.expected.removed.add(path)
 
     def expect_lock(self, run, options):
@@ -443,7 +445,7 @@ def shortened(there):
     return there if not there or len(there[0] if isinstance(there[0], bytes) else b"") < 100 else (hash(there[0]), *there[1:])
 
 
-def try_cases(place, name, mix, count, begin=0):
-    """Tries so many cases of a mix of this name. The seed of one that fails is in what is said."""
-    for seed in range(begin, begin + count):
+def try_cases(place, name, mix, seeds):
+    """Tries the cases of these seeds of a mix of this name. That of one that fails is in what is said."""
+    for seed in seeds:
         Case(pathlib.Path(place), name, seed, mix).try_all()

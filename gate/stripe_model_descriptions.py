@@ -7,6 +7,7 @@ import os
 import stripe_model_codes as codes
 from stripe_model_listing import MOST_OF_DESCRIPTION, Description, description_at, group_of, has_right, look
 from stripe_model_names import KEPT, folder_in
+from stripe_model_shared import SHARED
 from stripe_model_stripes import BEHIND_LINK, DIFFERS, LOST, NO_FILE, UNREAD, UNWRITTEN, file_at, given, place_for, refused_folder
 from stores import digest
 
@@ -123,14 +124,21 @@ class Copies:
         is_made = believed and work != "name" and (reason == LOST or (self.options.replace and may_replace))
         if is_made and work == "make":
             reason = self.make(done, copy, believed, reason != LOST)
-        if is_made and (work == "plan" or not reason):
+        elif is_made:
+            reason = UNWRITTEN + SHARED if self.is_shared(copy, reason != LOST) else None
+        if is_made and not reason:
             done.made.append(copy.name)
             return
         done.note(copy.name, reason)
         done.replaceable += bool(work != "name" and may_replace and not self.options.replace and believed)
 
+    def is_shared(self, copy, replaces):
+        return bool(self.stripe.shared) and self.stripe.shared.refuses(copy.name, replaces and not self.options.to)
+
     def make(self, done, copy, believed, replaces):
         """Makes a copy, or says why it isn't made."""
+        if self.is_shared(copy, replaces):
+            return UNWRITTEN + SHARED
         path, refused = place_for(self.options, self.options.to or self.options.store, copy.name)
         if refused:
             return UNWRITTEN + refused

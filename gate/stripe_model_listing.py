@@ -6,6 +6,7 @@ import os
 import re
 import stat
 
+from stores import digest
 from stripe_model_names import OF_RUNS, Pattern, described_stripe, folder_in, is_of_part, last_of
 
 DESCRIPTION = re.compile(rb"(0|[1-9][0-9]*) ([0-9a-f]{64}) (6-2-2|12-2-2)\n")
@@ -75,8 +76,12 @@ class Listing:
     def __init__(self, options):
         self.options, self.pattern = options, Pattern(options.names, options.layout, options.code or "12-2-2")
         self.found, self.folders, self.described, self.doubtful, self.expected = collections.defaultdict(dict), [], set(), set(), set()
-        self.votes, self.sum_votes, self.named = collections.Counter(), collections.Counter(), 0
-        self.leftovers, self.links, self.linked, self.unlisted, self.entered = [], [], set(), [], []
+        # What descriptions say, by their names, and the digests that some of them should have.
+        self.says, self.sums = {}, {}
+        self.sum_votes, self.named = collections.Counter(), 0
+        self.leftovers, self.links, self.linked, self.unlisted, self.entered, self.unread = [], [], set(), [], [], []
+        # The names that are links, if these are followed.
+        self.linked_names = set()
         own = self.entries("")
         disks = self.pattern.disks()
         if disks:
@@ -87,12 +92,19 @@ class Listing:
                     self.add(name)
         else:
             self.add_below(own)
+        # Another copy may say more.
+        for stripe in self.unread:
+            if stripe not in self.described:
+                self.expect_description(stripe)
 
     def path(self, name):
         return os.path.join(self.options.store, name) if name else self.options.store
 
     def looks_at_all(self):
-        """Whether fragments of other parts are looked at too, since a file is at the path of the report that no run wrote."""
+        """Whether fragments of other parts are looked at too, since links are followed, or a file is at the path of the report that no run
+        wrote."""
+        if self.options.follow:
+            return True
         report = self.options.report
         if not report or not os.path.exists(report):
             return False
@@ -155,6 +167,10 @@ class Listing:
                 if OF_RUNS.fullmatch(last_of(name)):
                     self.leftovers.append(self.path(name))
             inside = [name for name in names if not OF_RUNS.fullmatch(last_of(name)) and last_of(name) != "lost+found"]
+            for name in inside:
+                # The description that an earlier build made; a folder may be a stripe's own.
+                if not folder_in(name) and look(self.path(name), self.options.follow)[0] != "folder":
+                    self.is_description(name)
             names = [entry for name in inside for entry in self.entries(name)]
         for name in names:
             self.add(name)
@@ -177,6 +193,7 @@ class Listing:
                 self.links.append(path)
             elif end_of_links(path):
                 self.linked.add(os.path.dirname(end_of_links(path)))
+                self.linked_names.add(name)
         found = look(path, self.options.follow)
         if found[0] == "folder":
             self.folders.append((stripe, place))
@@ -192,17 +209,23 @@ class Listing:
             return False
         if self.options.follow and os.path.islink(path) and end_of_links(path):
             self.linked.add(os.path.dirname(end_of_links(path)))
+            self.linked_names.add(name)
         says = description_at(path, self.options.follow, self.options.user)
         if says:
-            if stripe not in self.described:
-                self.votes[says.code] += 1
+            self.says[name] = says
             self.expect_description(stripe)
             return True
-        if self.pattern.read(name):
-            return False
-        if self.is_wanted(stripe):
+        may_be_fragment, is_unread = bool(self.pattern.read(name)), self.is_unread(path)
+        if is_unread and not may_be_fragment:
+            self.unread.append(stripe)
+        elif (is_unread or not may_be_fragment) and self.is_wanted(stripe):
             self.doubtful.add(stripe)
-        return True
+        return not may_be_fragment
+
+    def is_unread(self, path):
+        """Whether the system refuses to read the file at a path."""
+        kind, user = look(path, self.options.follow)[0], self.options.user
+        return kind == "unknown" or not has_right(os.path.dirname(path), user, 1) or kind == "file" and not has_right(path, user, 4)
 
     def expect(self, stripe):
         self.named += 1
@@ -214,8 +237,25 @@ class Listing:
             self.described.add(stripe)
         self.expect(stripe)
 
+    @property
+    def votes(self):
+        """How many stripes are of each code by most copies of their descriptions, but for those that differ from their digests. Those of
+        other parts count each."""
+        votes, of_stripes = collections.Counter(), collections.defaultdict(collections.Counter)
+        for name, says in self.says.items():
+            line, stripe = f"{says.length} {says.digest} {says.code}\n".encode(), described_stripe(name)
+            if not self.is_wanted(stripe):
+                votes[says.code] += 1
+            else:
+                of_stripes[stripe][says.code] += self.sums.get(name) in (None, digest(line))
+        for stripe, codes in of_stripes.items():
+            first = next(says.code for name, says in self.says.items() if described_stripe(name) == stripe)
+            votes[max(("6-2-2", "12-2-2"), key=lambda code: codes[code]) if codes.total() else first] += 1
+        return votes
+
     def expect_sums(self, sums):
         """Notes what digests name, and gives how many of the store's files that are."""
+        self.sums = sums
         count, descriptions = 0, []
         for name in sums:
             read = self.pattern.read(name)

@@ -9,7 +9,8 @@ import stripe_model_codes as codes
 from stripe_model_descriptions import Copies, Descriptions
 from stripe_model_listing import Listing
 from stripe_model_names import Pattern, escaped
-from stripe_model_stripes import DAMAGE, GUESS, LENGTHS, NO_SURVIVOR, NOT_SHOWN, OF_DEVICE, Outcome, Stripe
+from stripe_model_shared import Shared
+from stripe_model_stripes import DAMAGE, GUESS, LENGTHS, NO_SURVIVOR, NOT_SHOWN, OF_DEVICE, UNREAD, Outcome, Stripe
 
 ALONE = "is named as a fragment, and of no stripe"
 REMOVED = "was left by a run that was killed, and is removed"
@@ -159,11 +160,15 @@ class Run:
             line = f"{options.store}: has fragments of the code {other}: give --code {other}, or another folder"
             return self.expected.refuse(line) and False
         self.pattern = Pattern(options.names, options.layout, self.code)
-        self.say_unlisted()
         self.found, self.alone, self.described = listing.settled(self.pattern)
+        self.say_unlisted()
         if not listing.named or (not options.part and not self.found):
             return self.expected.refuse(f"{options.store}: no file is named as a fragment, {options.names}: is this the store?") and False
         self.stripes = [Stripe(options, self.pattern, name, found, self.sums or {}) for name, found in self.found.items()]
+        listings = [Listing(dataclasses.replace(options, store=options.to))] if options.to else []
+        shared = Shared(options, self.pattern, [*listings, listing])
+        for stripe in self.stripes:
+            stripe.shared = shared
         return True
 
     def may_write(self):
@@ -187,10 +192,10 @@ class Run:
             self.expected.say(*(f"{link} {rest}" for link in links))
 
     def say_unlisted(self):
-        disks = self.pattern.disks() or []
+        folders = self.pattern.disks() or {folder for stripe in self.found for folder in self.pattern.folders(stripe)}
         for inside, why in self.listing.unlisted:
             is_gone = why in (os.strerror(2), os.strerror(20))
-            if not is_gone or any(f"{disk}/".startswith(f"{inside}/") for disk in disks):
+            if not is_gone or any(f"{folder}/".startswith(f"{inside}/") for folder in folders):
                 self.expected.say(f"{self.options.store}/{inside}: {why}: what should be in it counts as lost")
             self.has_unlisted = self.has_unlisted or not is_gone
 
@@ -359,6 +364,10 @@ def finish_lost(run):
         if length is None and stripe.files:
             is_left = True
             expected.say(*(stripe.name + ": " + LENGTHS + it.more for it in outcome.findings if it.reason == LENGTHS))
+        several = len({len(file.data) for file in stripe.files.values()}) > 1
+        for place in [place for place in stripe.places if several and place in stripe.closed]:
+            expected.say(f"{run.pattern.name(stripe.name, place)}: {UNREAD}{os.strerror(13)}")
+            is_of_device = True
         lost = [place for place in stripe.places if place not in stripe.of_length(length or 0)]
         unknown = [place for place in (lost if length is not None else stripe.places) if stripe.found[place][0] == "unknown"]
         for place in unknown:

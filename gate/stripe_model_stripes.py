@@ -8,6 +8,7 @@ import stat
 import stripe_model_codes as codes
 from stripe_model_listing import ABSENT, DANGLING, end_of_links, group_of, has_right
 from stripe_model_names import KEPT, escaped
+from stripe_model_shared import SHARED
 from stores import digest
 
 LOST = "is lost"
@@ -55,6 +56,10 @@ class Outcome:
     def note(self, place, reason, more=""):
         self.findings.append(Finding(place, reason, more))
 
+    def copy(self):
+        """The same before anything is done."""
+        return Outcome(self.length, findings=[*self.findings])
+
     def is_named(self, place, *reasons):
         return any(it.place == place and (not reasons or it.reason in reasons) for it in self.findings)
 
@@ -90,8 +95,12 @@ def place_for(options, folder, name):
     if not path:
         return None, "invalid input parameter"
     inside = os.path.dirname(path)
+    try:
+        os.stat(inside)
+    except OSError as error:
+        return None, error.strerror
     if not os.path.isdir(inside):
-        return None, os.strerror(20 if os.path.lexists(inside) else 2)
+        return None, os.strerror(20)
     return (path, None) if has_right(inside, options.user, 3) else (None, os.strerror(13))
 
 
@@ -113,6 +122,8 @@ class Stripe:
         self.sums = {place: sums.get(pattern.name(name, place)) for place in self.places}
         self.files = {place: file_at(self.path(place)) for place, (kind, _) in self.found.items() if kind == "file"}
         self.closed = {place for place in self.files if not has_right(self.path(place), options.user, 4)}
+        # Under which names nothing is written, if that is known.
+        self.shared = None
 
     def path(self, place, folder=None):
         return os.path.join(folder or self.options.store, self.pattern.name(self.name, place))
@@ -156,6 +167,11 @@ class Stripe:
             outcome.note(None, LENGTHS, ", ".join(groups))
         elif length is None:
             outcome.note(None, NO_SURVIVOR)
+        if len({len(file.data) for file in self.files.values()}) > 1:
+            # Those of the stripe's own length are read again.
+            for place in self.places:
+                if place in self.closed and len(self.files[place].data) != length:
+                    outcome.note(place, UNREAD, os.strerror(13))
         if length is None:
             self.note_not_shown(outcome, self.places)
         outcome.length = length or 0
@@ -189,7 +205,7 @@ class Stripe:
             return outcome
         of_length = self.of_length(length)
         for place in self.places:
-            if place not in of_length:
+            if place not in of_length and not outcome.is_named(place):
                 outcome.note(place, *self.reason(place))
         survivors = codes.Survivors(self.code, self.opened(outcome, of_length), length)
         outcome.survivors = frozenset(survivors.data)
@@ -249,11 +265,12 @@ class Stripe:
         sets, are_held = self.few(length)
         if len(sets) > 1 and self.is_sound_whole(length):
             sets = sets[:1]
-        return [self.repaired_from(length, read, are_held) for read in sets] or [self.repaired_from(length, None, False)]
+        reads = [(read, are_held) for read in sets] or [(None, False)]
+        return [self.repaired_from(outcome.copy(), read, are_held) for read, are_held in reads]
 
-    def repaired_from(self, length, read, are_held):
+    def repaired_from(self, outcome, read, are_held):
         """What a repair comes to that reads these survivors, or all."""
-        outcome, data = Outcome(length=length), self.of_length(length)
+        length, data = outcome.length, self.of_length(outcome.length)
         wanted = frozenset(self.places) - frozenset(data)
         if read is not None:
             survivors = codes.Survivors(self.code, {place: data[place] for place in data if place in read}, length)
@@ -302,7 +319,10 @@ class Stripe:
             if self.options.replace and kind == "file" and not known.is_named(place, UNREAD):
                 return (NOT_COVERED,)
             return None if known.is_named(place) else self.reason(place)
-        path, refused = place_for(self.options, self.options.to or self.options.store, self.pattern.name(self.name, place))
+        name = self.pattern.name(self.name, place)
+        if self.shared and self.shared.refuses(name, not is_free):
+            return UNWRITTEN, SHARED
+        path, refused = place_for(self.options, self.options.to or self.options.store, name)
         if refused:
             return UNWRITTEN, refused
         if self.differs(place, data):
@@ -321,7 +341,7 @@ class Stripe:
             return UNWRITTEN, TOO_LONG
         if not is_free:
             outcome.files[path + KEPT] = file_at(path)
-        like = next(iter(self.files.values()))
+        like = next(file for other, file in self.files.items() if other != place)
         outcome.files[path] = given(self.options, data, *like[1:])
         outcome.rebuilt.append(place)
         return None
@@ -356,11 +376,12 @@ class Stripe:
         data, (sets, are_held) = self.of_length(length), self.few(length)
         if not self.is_refused(data, are_held):
             sets = sets[:1]
-        return [self.planned_from(length, read, are_held) for read in sets] or [self.planned_from(length, None, False)]
+        reads = [(read, are_held) for read in sets] or [(None, False)]
+        return [self.planned_from(outcome.copy(), read, are_held) for read, are_held in reads]
 
-    def planned_from(self, length, read, are_held):
+    def planned_from(self, outcome, read, are_held):
         """What a dry run says of a repair that reads these survivors, or all."""
-        outcome, data = Outcome(length=length), self.of_length(length)
+        length, data = outcome.length, self.of_length(outcome.length)
         is_few = read is not None and not self.is_refused({place: data[place] for place in read}, are_held)
         used = {place: data[place] for place in read} if is_few else self.opened(outcome, data)
         outcome.survivors, lost = frozenset(used), frozenset(self.places) - frozenset(used)
@@ -383,7 +404,11 @@ class Stripe:
         is_other = kind == "file" and self.found[place][1] != outcome.length
         is_sure = outcome.is_named(place, DIFFERS) or (is_other and codes.is_covered(self.code, lost, place))
         may_replace = kind == "file" and self.options.replace and outcome.is_checked and is_sure
-        if self.options.to or self.found[place] in (ABSENT, DANGLING) or may_replace:
+        is_free = self.options.to or self.found[place] in (ABSENT, DANGLING)
+        if is_free or may_replace:
+            if self.shared and self.shared.refuses(self.pattern.name(self.name, place), not is_free):
+                outcome.note(place, UNWRITTEN, SHARED)
+                return
             outcome.rebuilt.append(place)
         elif not outcome.is_named(place):
             outcome.note(place, *self.reason(place))
