@@ -1,4 +1,3 @@
-#!/usr/bin/env python3
 """Takes functions of a copy of a crate as proved, so that a proof of others over it goes by their contracts alone.
 
 Each has a hole in the place of its proof, and a body that says nothing, so that what it calls isn't proved either."""
