@@ -10,6 +10,7 @@ import errno
 import os
 import shutil
 import signal
+import stat
 import sys
 
 # No compiled copy of the modules is left beside them.
@@ -281,6 +282,131 @@ def test_encode_beside_folders_of_the_wider_code(place, choose):
         said = run("encode", *names, *NARROW, store, path, status=1)
         hold(f"{store}: has fragments of the code 12-2-2: give --code 12-2-2, or another folder\n" in said, said)
         hold(there(store) == before, f"{sorted(set(there(store)) ^ set(before))}: {said}")
+
+
+def test_begun_that_has_a_name_at_a_place_of_one_code(place, choose):
+    """What has a name of the old file already stays if a fragment at a place that the (12,2,2) code alone has isn't the old one's, though the
+    old file can be read; with the old one's bytes it goes."""
+    data = choose.randbytes(2_000)
+    for number, each in enumerate(("x3", "y5")):
+        for stays in (True, False):
+            store = place / f"store-{number}-{stays}"
+            run("encode", *WIDE, store, source(place, "a", data), status=0)
+            files = there(store)
+            os.link(store / "a.x0", store / f"a{STAGED}.x0")
+            (store / f"a{STAGED}.{each}").write_bytes(files[f"a.{each}"][::-1 if stays else 1])
+            before = there(store)
+            said = run("encode", *WIDE, store, place / "a", status=1 if stays else 0)
+            hold(("too little of it is there to replace a file" in said) == stays, f"{each}: {said}")
+            hold(there(store) == (before if stays else files), f"{each}: {sorted(there(store))}")
+
+
+def test_rights_of_what_cannot_be_looked_at(place, choose):
+    """A description that is made where no copy is left is its user's alone if a file of the stripe can't be looked at, which may be more
+    private than the others."""
+    store, copies = place / "store", ("a.file", "a.file.copy")
+    run("encode", store, source(place, "a", choose.randbytes(700)), status=0)
+    for each in PLACES:
+        (store / f"a.{each}").chmod(0o644)
+    for each in ("x1", "p1"):
+        kept = (store / f"a.{each}").read_bytes()
+        for copy in copies:
+            (store / copy).unlink(missing_ok=True)
+        make_loop(store / f"a.{each}")
+        said = run("repair", "--follow-links", store, status=3)
+        modes = [stat.S_IMODE((store / copy).stat().st_mode) for copy in copies]
+        hold(f"{LOOP}\n" in said and modes == [0o600, 0o600], f"{each}: {modes}: {said}")
+        (store / f"a.{each}").unlink()
+        (store / f"a.{each}").write_bytes(kept)
+        (store / f"a.{each}").chmod(0o644)
+
+
+def test_rights_of_a_copy_that_cannot_be_looked_at(place, choose):
+    """A lost description of what is to replace a file isn't made with the rights of some copies if others can't be looked at, which may be
+    more private."""
+    kept, store, calls, new = place / "kept", place / "store", Calls(place, forks=True), choose.randbytes(900)
+    run("encode", "--make-folders", *DISKS, *NARROW, kept, source(place, "a", choose.randbytes(800)), status=0)
+    begin(place, kept, new, *DISKS, *NARROW)
+    private, tried = f"disk7/a{STAGED}.file", 0
+    for path in kept.rglob(f"a{STAGED}.file"):
+        path.chmod(0o644)
+    (kept / private).chmod(0o600)
+    (kept / f"disk3/a{STAGED}.file").unlink()
+    words = [Program.path, "encode", *DISKS, *NARROW, store, source(place, "a", b"another")]
+    shutil.copytree(kept, store)
+    kinds = calls.run(words).kinds
+    hold(stat.S_IMODE((store / "disk3/a.file").stat().st_mode) == 0o600, "it is made with more rights than a copy has")
+    for number, kind in enumerate(kinds[: kinds.index("create")], 1):
+        if kind == "look":
+            shutil.rmtree(store)
+            shutil.copytree(kept, store)
+            ended = calls.run(words, number, EIO)
+            if ended.paths[0] == str(store / private):
+                tried += 1
+                copy = next(path for path in (store / f"disk3/a{STAGED}.file", store / "disk3/a.file") if path.exists())
+                is_made = copy.read_text() == description(new)
+                hold(not is_made or stat.S_IMODE(copy.stat().st_mode) == 0o600, f"call {number}: {ended.text()}")
+    hold(tried > 0, "it isn't looked at")
+
+
+def test_all_that_cannot_be_looked_at_are_said(place, choose):
+    """Where so few fragments of what is to replace a file are there that it isn't the file, each is said that can't be looked at."""
+    store, names, old = place / "store", (*DISKS, "--follow-links"), choose.randbytes(800)
+    run("encode", "--make-folders", *DISKS, *NARROW, store, source(place, "a", old), status=0)
+    begin(place, store, choose.randbytes(700), *DISKS, *NARROW)
+    for number in (0, 1, 2, 6, 9):
+        (store / f"disk{number}/a{STAGED}").unlink()
+    for number in (3, 4, 8):
+        make_loop(store / f"disk{number}/a{STAGED}")
+    for command in ("read", "verify"):
+        more = ["-o", place / "out"] if command == "read" else []
+        said = run(command, *names, store, "a", *more, status=0)
+        for number in (3, 4, 8):
+            line = f"rebuild-store: {store}/disk{number}/a{STAGED}: {LOOP}\n"
+            hold(said.count(line) == 1, f"{command}, disk{number}: {said}")
+    hold((place / "out").read_bytes() == old, "another file is read")
+
+
+def test_unread_fragments_of_what_was_begun_are_said(place, choose):
+    """A fragment of what was begun that can't be opened or read while it is ended is said to be left out, once."""
+    kept, store, calls, tried = place / "kept", place / "store", Calls(place, forks=True), set()
+    run("encode", kept, source(place, "a", choose.randbytes(800)), status=0)
+    begin(place, kept, choose.randbytes(900))
+    words, name = [Program.path, "encode", store, source(place, "a", b"another")], f"a{STAGED}.x1"
+    shutil.copytree(kept, store)
+    kinds = calls.run(words).kinds
+    for number, kind in enumerate(kinds[: kinds.index("link")], 1):
+        if kind in ("open", "read"):
+            shutil.rmtree(store)
+            shutil.copytree(kept, store)
+            ended = calls.run(words, number, EIO)
+            if ended.paths[0] == str(store / name):
+                tried.add(kind)
+                line = f"rebuild-store: {name}: left out: {ERROR}\n"
+                hold(ended.status == 1 and ended.err.count(line) == 1, f"call {number}, {kind}: {ended.text()}")
+    hold(tried == {"open", "read"}, f"tried {tried}")
+
+
+def test_reads_of_a_damaged_file(place, choose):
+    """What was written to a new file and isn't the file isn't read once more in the same way to see that."""
+    calls, store, out = Calls(place, forks=True), place / "store", place / "out"
+    run("encode", store, source(place, "a", choose.randbytes(3_000_000)), status=0)
+
+    def reads(*words):
+        ended = calls.run([Program.path, *words])
+        hold(ended.status == 0, ended.text())
+        return ended.kinds.count("read")
+
+    once = reads("verify", store, "a")
+    damage(store / "a.x1")
+    for has_sums in (True, False):
+        if not has_sums:
+            (store / "SHA256SUMS").unlink()
+        found = reads("verify", store, "a")
+        # The right one is read once more as it is written.
+        written = reads("read", store, "a", "-o", out)
+        hold(found <= written < found + once * 3 // 2, f"{written} reads, where {found} find the fragments, and {once} give the file")
+        out.unlink()
 
 
 def test_interrupted_standard_input(place, choose):
