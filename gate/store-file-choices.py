@@ -11,6 +11,7 @@ import os
 import shutil
 import signal
 import stat
+import subprocess
 import sys
 
 # No compiled copy of the modules is left beside them.
@@ -43,8 +44,8 @@ def listed(store):
 
 
 def test_store_of_what_is_left_alone(place, _choose):
-    """What a name has of a file, or of what was to replace it, is taken out of a folder that has nothing else of a store; what is no file is
-    named and stays."""
+    """What a name has of a file, or of what was to replace it, is taken out of a folder that has nothing else of a store; what is no file
+    is named and stays."""
     for number, name in enumerate(("a.file", "a.file.copy", f"a{STAGED}.file", f"a{STAGED}.file.copy", f"a{STAGED}.p1", "a.x0")):
         store = place / f"store-{number}"
         lay_files(store, {name: description(b"gone").encode(), "notes": b"mine"})
@@ -165,7 +166,8 @@ def test_wide_file_that_is_replaced(place, choose):
 
 
 def test_wide_file_that_is_not_replaced(place, choose):
-    """If what has the name of a fragment or a description of the old file is no file, on a disk that the new one hasn't, nothing is begun."""
+    """If what has the name of a fragment or a description of the old file is no file, on a disk that the new one hasn't, nothing is
+    begun."""
     for name in ("disk12/a", "disk15/a.file"):
         store, path = undescribed(place, choose), source(place, "a", choose.randbytes(1_500))
         (store / name).unlink()
@@ -177,8 +179,8 @@ def test_wide_file_that_is_not_replaced(place, choose):
 
 
 def test_status_of_two_faults(place, choose):
-    """Where one thing can't be taken out since the disk fails, and another since it is no file, both are said, and the status is that of the
-    disk, whichever comes first."""
+    """Where one thing can't be taken out since the disk fails, and another since it is no file, both are said, and the status is that of
+    the disk, whichever comes first."""
     calls, kept, store, odd = Calls(place, forks=True), place / "kept", place / "store", f"a{STAGED}.y1"
     run("encode", kept, source(place, "a", choose.randbytes(700)), status=0)
     begin(place, kept, choose.randbytes(900))
@@ -285,8 +287,8 @@ def test_encode_beside_folders_of_the_wider_code(place, choose):
 
 
 def test_begun_that_has_a_name_at_a_place_of_one_code(place, choose):
-    """What has a name of the old file already stays if a fragment at a place that the (12,2,2) code alone has isn't the old one's, though the
-    old file can be read; with the old one's bytes it goes."""
+    """What has a name of the old file already stays if a fragment at a place that the (12,2,2) code alone has isn't the old one's, though
+    the old file can be read; with the old one's bytes it goes."""
     data = choose.randbytes(2_000)
     for number, each in enumerate(("x3", "y5")):
         for stays in (True, False):
@@ -407,6 +409,67 @@ def test_reads_of_a_damaged_file(place, choose):
         written = reads("read", store, "a", "-o", out)
         hold(found <= written < found + once * 3 // 2, f"{written} reads, where {found} find the fragments, and {once} give the file")
         out.unlink()
+
+
+def test_folders_that_stay(place, choose):
+    """If folders of a file can't be taken away, each is said, the others go, and the status is 3; a file that is replaced is so
+    nevertheless."""
+    names, calls = ("--names", "of/{stripe}/d{place}/f", *NARROW), Calls(place, but=str(place / "none"))
+    store, kept, new = place / "store", place / "kept", choose.randbytes(800)
+    run("encode", "--make-folders", *names, kept, source(place, "a", choose.randbytes(700)), status=0)
+    others = [f"of/a{STAGED}/d{each}" for each in PLACES]
+    own, replace = [it.replace(STAGED, "") for it in others], ("encode", "--replace", *names, store, source(place, "a", new))
+    for words, folders, said in ((("remove", *names, store, "a"), own, "removed 0 files; not removed: 1"),
+                                 (replace, others, "encoded 1 file; not encoded: 0")):
+        shutil.rmtree(store, ignore_errors=True)
+        shutil.copytree(kept, store)
+        kinds = calls.run([Program.path, *words]).kinds
+        for rest in ("", "kind"):
+            shutil.rmtree(store)
+            shutil.copytree(kept, store)
+            numbers = [number for number, kind in enumerate(kinds, 1) if kind == "rmdir"]
+            for number in numbers:
+                ended = calls.run([Program.path, *words], number, EIO, rest)
+                if ended.paths == (f"{store}/{folders[0]}",):
+                    break
+                shutil.rmtree(store)
+                shutil.copytree(kept, store)
+            hold(ended.paths == (f"{store}/{folders[0]}",) and ended.status == 3 and ended.out == said + "\n", ended.text())
+            left = [it for it in folders if (store / it).exists()]
+            hold(left == (folders if rest else folders[:1]), f"{words[0]}, {rest}: left {left}")
+            for folder in left:
+                hold(ended.err.count(f"rebuild-store: {store}/{folder}: {ERROR}\n") == 1, f"{folder}: {ended.text()}")
+            if words[0] == "encode":
+                hold(run("verify", *names[:2], store, "a", status=0) and listed(store)[0].startswith("of/a/"), f"{listed(store)}")
+
+
+def test_disks_that_cannot_be_synced(place, choose):
+    """Of all disks whose names can't be written to the disk each is said once, and the file isn't encoded."""
+    calls, store = Calls(place, forks=True), place / "store"
+    words = [Program.path, "encode", "--make-folders", *DISKS, store, source(place, "a", choose.randbytes(700))]
+    for code, disks in ((NARROW, 10), (WIDE, 16)):
+        shutil.rmtree(store, ignore_errors=True)
+        kinds = calls.run([*words, *code]).kinds
+        links = [number for number, kind in enumerate(kinds) if kind == "link"]
+        shutil.rmtree(store)
+        ended = calls.run([*words, *code], kinds.index("sync", links[disks - 1]) + 1, EIO, "kind")
+        for number in range(disks):
+            hold(ended.err.count(f"rebuild-store: {store}/disk{number}: {ERROR}\n") == 1, f"disk{number}: {ended.text()}")
+        hold(ended.status == 3 and not [*store.rglob("a.file")], ended.text())
+
+
+def test_standard_output_that_is_full(place, choose):
+    """If the last line can't be written, that is said, and the status is 3; the work is done. With -q there is no such line."""
+    store, path = place / "store", source(place, "a", choose.randbytes(700))
+    for words in (("encode", store, path), ("verify", store), ("remove", store, "a")):
+        for quiet in ((), ("-q",)):
+            with open("/dev/full", "wb") as full:
+                ended = subprocess.run([Program.path, *words, *quiet], stdin=subprocess.DEVNULL, stdout=full, stderr=subprocess.PIPE)
+            line = f"rebuild-store: standard output: {os.strerror(errno.ENOSPC)}\n"
+            hold((ended.returncode, ended.stderr.decode()) == ((0, "") if quiet else (3, line)), f"{words}: {ended}")
+            hold((store / "a.file").exists() == (words[0] != "remove"), f"{words}: {sorted(there(store))}")
+            if words[0] == "remove" and not quiet:
+                run("encode", store, path, status=0)
 
 
 def test_interrupted_standard_input(place, choose):
