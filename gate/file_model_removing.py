@@ -129,10 +129,11 @@ class Files:
         return False
 
     def is_described(self):
+        """Whether a description is there, or may be, since it can't be read."""
         for copy in self.copies:
             try:
                 if self.run.is_description(copy):
                     return True
             except Fault:
-                pass
+                return True
         return False

@@ -353,6 +353,23 @@ def test_folders_of_other_files(place, choose):
     hold(sorted(path.name for path in store.iterdir()) == ["SHA256SUMS", "a.file"], f"{sorted(there(store))}")
 
 
+def test_names_like_that_of_the_digests(place, choose):
+    """A file whose name begins as that of the digests is one as any other, if none of its fragments has that name or is in a folder of it."""
+    for number, names in enumerate(((), ("--names", "{stripe}/{place}"), ("--names", "in/{place}/{stripe}"))):
+        store = place / f"store-{number}"
+        for name in ("SHA256SUMS.old", "SHA256SUMS2", "SHA256SUM", *(() if names == ("--names", "{stripe}/{place}") else ("SHA256SUMS",))):
+            data = choose.randbytes(300)
+            run("encode", "--make-folders", *names, store, source(place, name, data), status=0)
+            run("read", *names, store, name, "-o", place / "out", status=0)
+            hold((place / "out").read_bytes() == data, f"{names}, {name}: another file is read")
+            hold(run("remove", *names, store, name, status=0) == "removed 1 file; not removed: 0\n", f"{names}, {name}: it isn't removed")
+            hold(there(store) == {"SHA256SUMS": b""}, f"{names}, {name}: {sorted(there(store))}")
+    store = place / "of-digests"
+    for names in (("--names", "SHA256SUMS/{stripe}.{place}"), ("--names", "{stripe}/d/{place}")):
+        said = run("encode", "--make-folders", *names, store, source(place, "SHA256SUMS", b"digests"), status=1)
+        hold("SHA256SUMS: a stripe can't have this name\n" in said and not there(store), said)
+
+
 def test_name_of_what_replaces_a_file(place, choose):
     """No file gets a name of those that replace others, which is said by the name that was given."""
     store, name = place / "store", f"a{STAGED}"

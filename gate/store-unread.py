@@ -306,6 +306,18 @@ def test_unread_descriptions_of_lost_fragments(place, choose):
         hold(f"{store}/a.file.copy: {LOOP}\nverified {len(others)} file" in said, said)
 
 
+def test_removal_beside_a_description_that_is_unread(place, choose):
+    """Where what has the name of a description stays, and can't be read, so that it may describe the file, the lines of SHA256SUMS stay."""
+    for unread in ("a.file", "a.file.copy"):
+        store = place / unread
+        run("encode", store, source(place, "a", choose.randbytes(900)), status=0)
+        lines = (store / "SHA256SUMS").read_text()
+        make_loop(store / unread)
+        said = run("remove", "--follow-links", store, "a", status=1)
+        hold(f"{unread}: is no regular file, and isn't removed\n" in said and (store / unread).is_symlink(), said)
+        hold((store / "SHA256SUMS").read_text() == lines and len(there(store)) == 11, f"{unread}: {sorted(there(store))}: {said}")
+
+
 def test_chains_of_links(place, choose):
     """What links lead to one after the other is read as what it is, as far as the system follows them."""
     store, out, data = place / "store", place / "out", choose.randbytes(900)
