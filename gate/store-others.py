@@ -8,6 +8,7 @@ It runs what was built last, or PROGRAM, and of the tests those whose names have
 
 import errno
 import os
+import resource
 import shutil
 import sys
 import threading
@@ -353,11 +354,36 @@ def test_folders_of_other_files(place, choose):
     hold(sorted(path.name for path in store.iterdir()) == ["SHA256SUMS", "a.file"], f"{sorted(there(store))}")
 
 
+def test_wrong_description_of_a_file_that_would_be_too_long(place, choose):
+    """A wrong description doesn't keep a file from being read where what it describes would be longer than files may get, though it is the
+    one that is tried first; if the right one says so, nothing is written."""
+    store, out, limits = place / "store", place / "out", resource.getrlimit(resource.RLIMIT_FSIZE)
+    data = choose.randbytes(897)
+    run("encode", store, source(place, "a", data), status=0)
+    (store / "SHA256SUMS").unlink()
+    # The fragments of both lengths are as long.
+    (store / "a.file").write_text(description(data).replace("897 ", "900 ", 1))
+
+    def limited(most):
+        # It is the soft limit that counts.
+        return lambda: resource.setrlimit(resource.RLIMIT_FSIZE, (most, limits[1]))
+
+    for before in (None, b"older"):
+        out.unlink() if out.exists() else None
+        out.write_bytes(before) if before else None
+        said = run("read", store, "a", "-o", out, status=1, preexec_fn=limited(896))
+        line = f"rebuild-store: {out}: would have 897 bytes, and no file may get more than 896 here: ulimit -f\n"
+        hold(said == line and (out.read_bytes() == before if before else not out.exists()), said)
+        hold(run("read", store, "a", "-o", out, status=0, preexec_fn=limited(898)) == "", "it says something")
+        hold(out.read_bytes() == data, "another file is read")
+
+
 def test_names_like_that_of_the_digests(place, choose):
     """A file whose name begins as that of the digests is one as any other, if none of its fragments has that name or is in a folder of it."""
     for number, names in enumerate(((), ("--names", "{stripe}/{place}"), ("--names", "in/{place}/{stripe}"))):
         store = place / f"store-{number}"
-        for name in ("SHA256SUMS.old", "SHA256SUMS2", "SHA256SUM", *(() if names == ("--names", "{stripe}/{place}") else ("SHA256SUMS",))):
+        own = () if names == ("--names", "{stripe}/{place}") else ("SHA256SUMS",)
+        for name in ("SHA256SUMS.old", "SHA256SUMS2", "SHA256SUM", *own):
             data = choose.randbytes(300)
             run("encode", "--make-folders", *names, store, source(place, name, data), status=0)
             run("read", *names, store, name, "-o", place / "out", status=0)
