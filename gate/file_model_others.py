@@ -2,7 +2,7 @@
 and rights, and paths to which files are read."""
 
 from file_model_damage import copies, fragments, lose_sums
-from file_model_names import CODES, KEPT, PLACES, STAGED, folder_in
+from file_model_names import CODES, KEPT, PLACES, STAGED, digest, folder_in
 from file_model_runs import STORE
 from file_model_tree import MINE, File, Folder, Link
 
@@ -28,13 +28,20 @@ def leave_strangers(case):
 
 
 def leave_of_other_code(case):
-    """Files of others whose names the (12,2,2) code alone gives a file of the store, or what was to replace one."""
+    """Files of others whose names the (12,2,2) code alone gives a file of the store, or what was to replace one; or so many that they show
+    that it is of this code, as one does that SHA256SUMS names."""
     choose, naming = case.choose, case.naming
-    narrow, wide = (naming.fragments(code, choose.choice(case.names) + choose.choice(["", "", STAGED])) for code in CODES)
+    stripe = choose.choice([*case.names, *case.names, *case.laid]) + choose.choice(["", "", STAGED])
+    narrow, wide = (naming.fragments(code, stripe) + naming.descriptions(code, stripe) for code in CODES)
     beyond = [name for name in wide if name not in narrow]
-    for name in choose.sample(beyond, choose.choice([1, 1, 2])):
+    for name in choose.sample(beyond, choose.choice([1, 1, 2, 3, 4])):
         if isinstance(case.tree.at.get(folder_in(f"{STORE}/{name}")), Folder) and not case.node(name):
             case.put(name, choose.randbytes(5))
+        if choose.random() < 0.1:
+            case.sums[name.encode()] = digest(b"other")
+    if choose.random() < 0.2:
+        for copy in naming.descriptions("12-2-2", stripe):
+            case.drop(copy)
 
 
 def lay_other_code(case):

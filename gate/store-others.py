@@ -379,7 +379,8 @@ def test_wrong_description_of_a_file_that_would_be_too_long(place, choose):
 
 
 def test_names_like_that_of_the_digests(place, choose):
-    """A file whose name begins as that of the digests is one as any other, if none of its fragments has that name or is in a folder of it."""
+    """A file whose name begins as that of the digests is one as any other, if none of its fragments has that name or is in a folder of
+    it."""
     for number, names in enumerate(((), ("--names", "{stripe}/{place}"), ("--names", "in/{place}/{stripe}"))):
         store = place / f"store-{number}"
         own = () if names == ("--names", "{stripe}/{place}") else ("SHA256SUMS",)
