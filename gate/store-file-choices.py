@@ -472,24 +472,22 @@ def test_standard_output_that_is_full(place, choose):
                 run("encode", store, path, status=0)
 
 
-def test_interrupted_standard_input(place, choose):
-    """A read of standard input that a signal interrupts is made again."""
-    calls, store, data, tried = Calls(place), place / "store", choose.randbytes(900), 0
-    path = source(place, "in", data)
-    words = ["sh", "-c", 'exec "$@" < "$0"', str(path), str(Program.path), "encode", str(store), "-", "--as", "a"]
-    ended = calls.run(words)
-    hold(ended.status == 0, ended.text())
-    for number, kind in enumerate(ended.kinds, 1):
-        if kind == "read":
-            shutil.rmtree(store)
-            failed = calls.run(words, number, errno.EINTR)
-            if failed.paths[0] == str(path):
-                tried += 1
-                hold(failed.status == 0, f"call {number}: {failed.text()}")
-                run("verify", store, "a", status=0)
-                if tried == 2:
-                    break
-    hold(tried > 0, f"standard input isn't read: {ended.kinds}")
+def test_folder_of_another_file_that_cannot_be_listed(place, choose):
+    """A file is encoded or taken out beside the folder of another one that can't be listed: that is said, and the status is 3, since what
+    killed runs have left there may stay."""
+    names, store = ("--follow-links", "--names", "{stripe}/{place}"), place / "store"
+    for name in ("a", "b", "c"):
+        run("encode", "--make-folders", *names, store, source(place, name, choose.randbytes(300)), status=0)
+    (store / "b").rename(place / "away")
+    make_loop(store / "b")
+    said = run("remove", *names, store, "a", status=3)
+    hold("removed 1 file; not removed: 0\n" in said and f"{store}/b: {LOOP}" in said and not (store / "a").exists(), said)
+    said = run("encode", "--make-folders", *names, store, place / "a", status=3)
+    line = f"rebuild-store: {store}/b: {LOOP}: what runs that were killed have left there stays\n"
+    hold("encoded 1 file; not encoded: 0\n" in said and said.count(line) == 1, said)
+    (store / "b").unlink()
+    (place / "away").rename(store / "b")
+    hold(run("verify", *names, store, status=0) == "verified 3 files; not as described: 0\n", "a file is another one")
 
 
 if __name__ == "__main__":
