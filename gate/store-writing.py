@@ -1,0 +1,261 @@
+#!/usr/bin/env python3
+"""Tries how rebuild-store writes and what it reads for it: the rights and owners of what is replaced, links above the folder that is written
+into, disks whose names begin alike, names and rights of unfinished files, fragments that are longer than what is digested at once, files
+that get shorter, and all that may be damaged.
+
+    store-writing.py [PROGRAM [TEST]]
+
+What has to come is from rebuild-store(1) and rebuild-store(5)."""
+
+import errno
+import os
+import pathlib
+import re
+import shutil
+import stat
+import subprocess
+import sys
+
+# No compiled copy of the modules is left beside them.
+sys.dont_write_bytecode = True
+from faults import Calls  # noqa: E402
+from stores import (  # noqa: E402
+    Program, Skipped, description, hold, lay, lay_files, run, source, there, try_all, while_waiting, write_sums,
+)
+
+PLACES = ("x0", "x1", "x2", "y0", "y1", "y2", "px", "py", "p0", "p1")
+LINKED = "can't be put in its place: its folder is a link, and links aren't followed"
+# How many bytes are digested at once.
+BLOCK = 262_144
+ALONE = ["unshare", "--mount", "--propagation", "private", *(["--user", "--map-root-user"] if os.geteuid() else [])]
+
+
+def wrong(data):
+    return bytes(255 - byte for byte in data)
+
+
+def rights(path):
+    """Who owns a file, and what the others may do with it."""
+    about = path.lstat()
+    return about.st_uid, about.st_gid, stat.S_IMODE(about.st_mode)
+
+
+def test_rights_of_what_is_replaced(place, choose):
+    """What replaces a fragment gets the owner and the rights of the others of its stripe, and not those of the one that it replaces, which
+    keeps them under its second name; and so does a description."""
+    store, is_root = place / "store", os.geteuid() == 0
+    own, others = ((4_321, 4_322), (1_234, 1_235)) if is_root else ((os.geteuid(), os.getegid()),) * 2
+    run("encode", store, source(place, "a", choose.randbytes(3_000)), status=0)
+    files = there(store)
+    for name in (*(f"a.{one}" for one in PLACES), "a.file", "a.file.copy"):
+        for path in store.glob("a.*"):
+            os.chown(path, *others)
+            path.chmod(0o640)
+        damaged = store / name
+        damaged.write_bytes(wrong(files[name]))
+        os.chown(damaged, *own)
+        damaged.chmod(0o606)
+        run("repair", "--replace-damaged", store, status=0)
+        kept = store / f"{name}.damaged"
+        hold(damaged.read_bytes() == files[name] and kept.read_bytes() == wrong(files[name]), f"{name} isn't replaced")
+        hold(rights(damaged) == (*others, 0o640), f"{name}: {rights(damaged)}")
+        hold(rights(kept) == (*own, 0o606), f"{name}: what is kept has {rights(kept)}")
+        kept.unlink()
+
+
+def test_links_above_what_is_written(place, choose):
+    """Nothing is written through a link that any of the folders is in which a fragment's name is, neither into a store nor into another
+    folder."""
+    words, data = ["--code", "6-2-2", "--names", "all/disk{shard}/in/{stripe}"], choose.randbytes(3_000)
+    for number, link in enumerate(("all", "all/disk3", "all/disk3/in")):
+        store, to, outside, file = (place / f"{name}{number}" for name in ("store", "to", "outside", "file"))
+        file.write_bytes(data)
+        run("encode", "--make-folders", *words, "--as", "a", store, file, status=0)
+        right = (store / "all/disk3/in/a").read_bytes()
+        shutil.copytree(store, to)
+        for path in [path for path in to.rglob("*") if path.is_file()]:
+            path.unlink()
+        (to / link).rename(outside)
+        (to / link).symlink_to(outside)
+        (store / "all/disk3/in/a").unlink()
+        # Whose folder is no link is put in its place beside the other.
+        (store / "all/disk5/in/a").unlink()
+        said = run("repair", *words, "--to", to, store, status=3)
+        hold(f"all/disk3/in/a: {LINKED}\n" in said and not there(outside), f"{link}: {sorted(there(outside))}: {said}")
+        hold((to / "all/disk5/in/a").exists() == (number > 0), f"{link}: {said}")
+        run("repair", "--follow-links", *words, "--to", to, store, status=0)
+        hold((to / "all/disk3/in/a").read_bytes() == right, f"{link}: the link isn't followed")
+        if number:
+            shutil.rmtree(outside)
+            (store / link).rename(outside)
+            (store / link).symlink_to(outside)
+            before = there(outside)
+            said = run("repair", *words, store, status=3)
+            hold(f"all/disk3/in/a: {LINKED}\n" in said and there(outside) == before, f"{link}: {sorted(there(outside))}: {said}")
+            hold((store / "all/disk5/in/a").exists(), f"{link}: {said}")
+
+
+IN_MOUNTS = """
+set -e
+program=$1 file=$2 gone=$3
+for number in $(seq 0 15); do
+    mkdir -p store/disk$number
+    mount -t tmpfs -o size=64k,mode=755 tmpfs store/disk$number
+done
+names='--code 12-2-2 --names disk{shard}/{stripe}'
+"$program" encode $names store "$file"
+cp store/disk$gone/file right
+umount store/disk1
+rm store/disk$gone/*
+status=0
+"$program" repair $names store > said 2>&1 || status=$?
+echo $status > status
+cp store/disk$gone/file made || :
+ls store/disk1 > unmounted
+"""
+
+
+def test_disks_whose_names_begin_alike(place, choose):
+    """Where disk1 isn't mounted, what was lost of each of the disks whose names begin so comes back there, and nothing is written to it."""
+    if not shutil.which("unshare") or subprocess.run([*ALONE, "mount", "-t", "tmpfs", "tmpfs", place], capture_output=True).returncode:
+        raise Skipped("nothing can be mounted")
+    source(place, "file", choose.randbytes(3_000))
+    for gone in (10, 15):
+        folder = place / f"{gone}"
+        folder.mkdir()
+        words = [*ALONE, "sh", "-c", IN_MOUNTS, "sh", Program.path, place / "file", str(gone)]
+        ended = subprocess.run(words, cwd=folder, capture_output=True, text=True)
+        hold(ended.returncode == 0, f"{gone}: {ended.stdout}{ended.stderr}")
+        said = (folder / "said").read_text()
+        hold((folder / "status").read_text() == "3\n" and (folder / "unmounted").read_text() == "", said)
+        hold((folder / "made").read_bytes() == (folder / "right").read_bytes(), said)
+        hold(f"disk{gone}/file: " not in said and re.search("^disk1/file: can't be .*: No medium found$", said, re.M), said)
+
+
+def test_names_and_rights_of_unfinished_files(place, choose):
+    """What a run writes has a name of the form of the manual page until it is whole, and nobody else may read a fragment meanwhile."""
+    calls, store, digits = Calls(place, forks=True), place / "store", "[0-9a-f]{16}"
+    host = re.sub("[^A-Za-z0-9._-]", "_", os.uname().nodename)
+    for path, name in zip((store / "s.x1", store / "s.p0"), (rf"[0-9]+@{re.escape(host)}-{digits}",) * 2):
+        for part, before in (((), ""), (("--part", "1/1"), "1-1-")):
+            lay(store, choose, length=100)
+            path.unlink()
+            command = [Program.path, "repair", "--workers", "1", *part, store]
+            number = calls.run(command).kinds.index("link") + 1
+            path.unlink()
+            seen = []
+
+            def look():
+                # A lock of a part is no unfinished file.
+                seen.extend((it.name, rights(it)) for it in store.glob(".rebuild-store-*") if "-of-" not in it.name)
+
+            status, said = while_waiting(calls, place, command, number, look)
+            hold(status == 0 and len(seen) == 1, f"{part}: status {status}: {seen}: {said}")
+            hold(re.fullmatch(rf"\.rebuild-store-{before}{name}", seen[0][0]), f"{part}: {seen}")
+    # Before it has the rights of the others it has none.
+    path.unlink()
+    number, seen = calls.run(command).kinds.index("write") + 1, []
+    path.unlink()
+    status, said = while_waiting(calls, place, command, number, look)
+    hold(status == 0 and [it[1][2] for it in seen] == [0o600], f"status {status}: {seen}: {said}")
+
+
+def test_long_fragments_with_digests(place, choose):
+    """Fragments that are longer than what is digested at once are held to their digests to the last byte, by themselves and beside others;
+    and one that can't be read at its beginning is said to be that, and not to differ."""
+    calls = Calls(place, forks=True)
+    for number, length in enumerate((BLOCK, BLOCK + 1, 2 * BLOCK + 4_321)):
+        store = place / f"store{number}"
+        files = lay(store, choose, length=length)
+        lines = write_sums(store)
+        run("scrub", store, status=0)
+        for listed in (("s.x1",), ("s.x1", "s.y0"), tuple(files)):
+            (store / "SHA256SUMS").write_text("".join(line for line in lines if line.split()[1] in listed))
+            run("scrub", store, status=0)
+            for at in (length - 1, min(BLOCK, length - 1)):
+                data = bytearray(files["s.x1"])
+                data[at] ^= 1
+                (store / "s.x1").write_bytes(data)
+                said = run("scrub", store, status=1)
+                hold("s.x1: differs from the checksums\n" in said and said.count("\n") == 2, f"{length}, {listed}: {said}")
+            (store / "s.x1").write_bytes(files["s.x1"])
+    command, tried = [Program.path, "scrub", "--workers", "1", store], set()
+    for number, kind in enumerate(calls.run(command).kinds, 1):
+        if kind == "read" and len(tried) < 3:
+            ended = calls.run(command, number, errno.EIO)
+            path = pathlib.Path(ended.paths[0])
+            if path.name in ("s.x0", "s.y1", "s.p1") and path.name not in tried:
+                tried.add(path.name)
+                hold(ended.status == 3 and ended.out.startswith(f"{path.name}: can't be read: Input/output error\n"), ended.text())
+                hold("differs" not in ended.out, ended.text())
+    hold(len(tried) == 3, f"{tried} were tried")
+
+
+def test_unread_fragments_of_several_lengths(place, choose):
+    """Where no check says which length is right, fragments of it that can't be opened or read are said too, with the status of a device."""
+    calls, store = Calls(place, forks=True), place / "store"
+    files = lay(store, choose)
+    for name in ("s.x0", "s.y1"):
+        files[name] = choose.randbytes(600)
+    files["s.p1"] = files["s.p1"][:300]
+    lay_files(store, files)
+    for words in (["scrub"], ["repair"], ["repair", "-n"]):
+        command, tried = [Program.path, *words, "--code", "6-2-2", "--workers", "1", store], set()
+        for number, kind in enumerate(calls.run(command).kinds, 1):
+            if kind in ("open", "read") and len(tried) < 4:
+                ended = calls.run(command, number, errno.EIO, rest="path")
+                name = pathlib.Path(ended.paths[0]).name
+                if name in ("s.x1", "s.y2") and (name, kind) not in tried:
+                    tried.add((name, kind))
+                    said = ended.out + ended.err
+                    hold(ended.status == 3 and f"{name}: can't be read: Input/output error\n" in said, f"{words}: {ended.text()}")
+                    hold("s: its fragments have different lengths" in said, f"{words}: {ended.text()}")
+        hold(len(tried) == 4 and there(store) == files, f"{words}: {tried}")
+
+
+def test_all_that_may_be_damaged(place, choose):
+    """Where so much is lost that one of a group alone shows that one of it is damaged, a line names each of the group."""
+    for group, others in (("xp", "y"), ("yp", "x")):
+        one, other = group[0], others[0]
+        for damaged in (f"{one}0", f"{one}1", f"{one}2", f"p{one}"):
+            store = place / damaged
+            files = lay(store, choose)
+            for name in (f"s.{other}1", "s.p0", "s.p1"):
+                (store / name).unlink()
+            (store / f"s.{damaged}").write_bytes(wrong(files[f"s.{damaged}"]))
+            before = there(store)
+            for words, status in ((["scrub"], 1), (["repair"], 1), (["repair", "--assume-one-damaged", "--replace-damaged"], 1)):
+                said = run(*words, "--code", "6-2-2", store, status=status)
+                named = re.search("^s: contradiction: one of these is damaged: (.*)$", said, re.M)
+                hold(named and {f"{one}0", f"{one}1", f"{one}2", f"p{one}"} <= set(named[1].split()), f"{damaged}, {words}: {said}")
+                # They come in the order of the places, each once.
+                order = [name for name in PLACES if name in named[1].split()]
+                hold(named[1].split() == order and there(store) == before, f"{damaged}, {words}: {said}")
+
+
+def test_file_that_gets_shorter(place, choose):
+    """A file that gets shorter while it is encoded is refused, and no disk is at fault, or it is encoded as it is then."""
+    calls, store, file = Calls(place, forks=True), place / "store", place / "file"
+    command, tried, data = [Program.path, "encode", store, file], 0, choose.randbytes(6_000)
+    file.write_bytes(data)
+    kinds = calls.run(command).kinds
+    for number, kind in enumerate(kinds, 1):
+        if kind not in ("look", "open", "read"):
+            continue
+        shutil.rmtree(store, ignore_errors=True)
+        file.write_bytes(data)
+        if str(file) not in calls.run(command, number, errno.EIO).paths:
+            continue
+        shutil.rmtree(store, ignore_errors=True)
+        status, said = while_waiting(calls, place, command, number, lambda: os.truncate(file, 5_000))
+        if status == 0:
+            hold((store / "file.file").read_text() in (description(data), description(data[:5_000])), f"call {number}, {kind}: {said}")
+            run("verify", store, status=0)
+        else:
+            tried += 1
+            hold(status == 1 and f"{file}: changed while it was read\n" in said, f"call {number}, {kind}: status {status}: {said}")
+    hold(tried > 1, f"{tried} calls were tried")
+
+
+if __name__ == "__main__":
+    try_all("store-writing", globals(), *sys.argv[1:3])
