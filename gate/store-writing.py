@@ -1,5 +1,5 @@
 #!/usr/bin/env python3
-"""Tries how rebuild-store writes and what it reads for it: the rights and owners of what is replaced, links above the folder that is written
+"""Tries how rebuild-store writes and what it reads for it: rights and owners of what is replaced, links above the folder that is written
 into, disks whose names begin alike, names and rights of unfinished files, fragments that are longer than what is digested at once, files
 that get shorter, and all that may be damaged.
 
@@ -213,6 +213,28 @@ def test_unread_fragments_of_several_lengths(place, choose):
         hold(len(tried) == 4 and there(store) == files, f"{words}: {tried}")
 
 
+def test_unread_fragments_beside_another_length(place, choose):
+    """Where digests show which length is right, a fragment that can't be opened is said once, as that, whichever of the lengths it has."""
+    calls, store = Calls(place, forks=True), place / "store"
+    files = lay(store, choose)
+    write_sums(store)
+    (store / "s.p1").write_bytes(files["s.p1"][:300])
+    before = there(store)
+    for words in (["scrub"], ["repair", "--reads", "all"], ["repair", "-n", "--reads", "all"], ["repair", "-n"]):
+        command, tried = [Program.path, *words, "--workers", "1", store], set()
+        for number, kind in enumerate(calls.run(command).kinds, 1):
+            if kind == "open" and len(tried) < 3:
+                ended = calls.run(command, number, errno.EIO, rest="path")
+                name = pathlib.Path(ended.paths[0]).name
+                if name in ("s.x1", "s.y2", "s.p1") and name not in tried:
+                    tried.add(name)
+                    said = [line for line in (ended.out + ended.err).splitlines() if line.startswith(f"{name}: ")]
+                    is_once = said == [f"{name}: can't be read: Input/output error"]
+                    # A repair rebuilds what can't be read, and leaves the file that is there.
+                    hold(ended.status == 3 and is_once, f"{words}, {name}: {ended.text()}")
+        hold(len(tried) == 3 and there(store) == before, f"{words}: {tried}")
+
+
 def test_all_that_may_be_damaged(place, choose):
     """Where so much is lost that one of a group alone shows that one of it is damaged, a line names each of the group."""
     for group, others in (("xp", "y"), ("yp", "x")):
@@ -255,6 +277,56 @@ def test_file_that_gets_shorter(place, choose):
             tried += 1
             hold(status == 1 and f"{file}: changed while it was read\n" in said, f"call {number}, {kind}: status {status}: {said}")
     hold(tried > 1, f"{tried} calls were tried")
+
+
+# The options of each command by the synopsis, with the words for their values; letters, defaults and choices.
+OF_STORE = {"--code": "<CODE>", "--names": "<PATTERN>", "--layout": "<LAYOUT>", "--follow-links": ""}
+OF_ALL = {**OF_STORE, "--stripes": "<FILE>", "--part": "<I/N>"}
+OF_TESTS = {**OF_ALL, "--workers": "<N>", "--rate": "<BYTES>", "--sums": "<FILE>", "--report": "<FILE>", "--json": "",
+            "--progress": "<FILE>", "--quiet": ""}
+OF_READS = {"--names": "<PATTERN>", "--layout": "<LAYOUT>", "--follow-links": "", "--quiet": ""}
+OF_COMMANDS = {
+    "repair": ("<STORE>", {**OF_TESTS, "--dry-run": "", "--replace-damaged": "", "--assume-one-damaged": "", "--to": "<FOLDER>",
+                           "--reads": "<WHICH>", "--trust-writers": "", "--allow-unmounted": ""}),
+    "lost": ("<STORE>", {**OF_ALL, "--json": ""}),
+    "scrub": ("<STORE>", OF_TESTS),
+    "encode": ("<STORE> <FILE>...", {**OF_STORE, "--trust-writers": "", "--allow-unmounted": "", "--as": "<NAME>", "--make-folders": "",
+                                     "--replace": "", "--quiet": ""}),
+    "read": ("<STORE> <NAME>", {**OF_READS, "--output": "<FILE>"}),
+    "list": ("<STORE>", {**OF_ALL, "--json": ""}),
+    "verify": ("<STORE> [NAME]...", OF_READS),
+    "remove": ("<STORE> <NAME>...", {**OF_STORE, "--trust-writers": "", "--quiet": ""}),
+}
+LETTERS = {"--workers": "-j", "--dry-run": "-n", "--quiet": "-q", "--output": "-o", "--help": "-h"}
+DEFAULTS = {"--names": "{stripe}.{place}", "--layout": "plain", "--workers": "4", "--rate": "no limit", "--sums": "SHA256SUMS there"}
+CHOICES = {"--code": "6-2-2, 12-2-2", "--layout": "plain, groups", "--reads": "all, checked, few"}
+# What is said of some options in the manual page, too.
+WORDS = {"--workers": "1 to 16", "--part": "3/10", "--rate": "500K, 50M or 1G", "--replace-damaged": "<name>.damaged",
+         "--layout": "px py p0 p1", "--reads": "as few as show damage (the default)", "--code": "code", "--stripes": "name on each line"}
+PLACES_OF_WIDE = "Places: x0 x1 x2 y0 y1 y2 px py p0 p1; 12-2-2 has x3 x4 x5 y3 y4 y5 too."
+STATUSES = "Exit status: 0 done, 1 something is left, 2 usage, 3 I/O error, 4 memory."
+
+
+def test_help(_place, _choose):
+    """Help lists each command with what it says of itself, its arguments, and its options with their letters, values, defaults and
+    choices."""
+    whole = run("--help", status=0)
+    hold(run("-h", status=0) == run("help", status=0) == whole, "help differs by how it is asked for")
+    listed = dict(re.findall(r"^  (\w+) +(\S.*)$", whole.partition("\nCommands:\n")[2].partition("\n\n")[0], re.M))
+    hold([*listed] == [*OF_COMMANDS, "help"] and f"\n{PLACES_OF_WIDE}\n{STATUSES}\n" in whole, whole)
+    for command, (arguments, options) in OF_COMMANDS.items():
+        said = run(command, "--help", status=0)
+        hold(run(command, "-h", status=0) == run("help", command, status=0) == said, f"{command}: help differs by how it is asked for")
+        hold(said.startswith(f"{listed[command]}\n\nUsage: rebuild-store {command} [OPTIONS] {arguments}\n\nArguments:\n  <STORE>"), said)
+        found = re.findall(r"^ +(?:(-\w), )?(--[a-z-]+) ?(<\S+>)? +(\S.*)$", said, re.M)
+        hold({name: value for _, name, value, _ in found} == {**options, "--help": ""}, f"{command}: {found}")
+        for letter, name, _, text in found:
+            default = "6-2-2" if (command, name) == ("encode", "--code") else DEFAULTS.get(name)
+            hold(letter == LETTERS.get(name, ""), f"{command} {name}: {letter}")
+            hold(re.findall(r"\[default: (.*?)\]", text) == ([default] if default else []), f"{command} {name}: {text}")
+            choices = [CHOICES[name]] if name in CHOICES else []
+            hold(re.findall(r"\[possible values: (.*?)\]", text) == choices, f"{command} {name}: {text}")
+            hold(WORDS.get(name, "") in text.lower() or WORDS.get(name, "") in text, f"{command} {name}: {text}")
 
 
 if __name__ == "__main__":
