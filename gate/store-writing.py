@@ -1,7 +1,7 @@
 #!/usr/bin/env python3
 """Tries how rebuild-store writes and what it reads for it: rights and owners of what is replaced, links above the folder that is written
-into, disks whose names begin alike, names and rights of unfinished files, fragments that are longer than what is digested at once, files
-that get shorter, and all that may be damaged.
+into, disks whose names begin alike, names and rights of unfinished files, fragments that are longer than what is digested at once, all that
+may be damaged, what can't get its name, limits that are met, and help.
 
     store-writing.py [PROGRAM [TEST]]
 
@@ -11,6 +11,7 @@ import errno
 import os
 import pathlib
 import re
+import resource
 import shutil
 import stat
 import subprocess
@@ -20,7 +21,7 @@ import sys
 sys.dont_write_bytecode = True
 from faults import Calls  # noqa: E402
 from stores import (  # noqa: E402
-    Program, Skipped, description, hold, lay, lay_files, run, source, there, try_all, while_waiting, write_sums,
+    Program, Skipped, digest, hold, lay, lay_files, run, source, there, try_all, while_waiting, write_sums,
 )
 
 PLACES = ("x0", "x1", "x2", "y0", "y1", "y2", "px", "py", "p0", "p1")
@@ -93,6 +94,27 @@ def test_links_above_what_is_written(place, choose):
             said = run("repair", *words, store, status=3)
             hold(f"all/disk3/in/a: {LINKED}\n" in said and there(outside) == before, f"{link}: {sorted(there(outside))}: {said}")
             hold((store / "all/disk5/in/a").exists(), f"{link}: {said}")
+
+
+def test_name_to_which_the_link_of_another_leads(place, choose):
+    """A fragment to whose own name the link of another one leads is made there if nothing is, and isn't replaced; by the link nothing is
+    made or replaced."""
+    store, words = place / "store", ["--follow-links", "--code", "6-2-2", "--reads", "all"]
+    files = lay(store, choose)
+    (store / "s.x1").unlink()
+    (store / "s.x1").symlink_to("s.x0")
+    (store / "s.x0").unlink()
+    said = run("repair", *words, store, status=3)
+    hold((store / "s.x0").read_bytes() == files["s.x0"] and (store / "s.x1").is_symlink(), said)
+    hold("s.x1: can't be put in its place: another name leads there too\n" in said and "s.x0: can't" not in said, said)
+    # The link is taken for the fragment that is elsewhere, which two digests show to be another one.
+    write_sums(store, ("s.x1", digest(files["s.x1"])))
+    (store / "s.x0").write_bytes(wrong(files["s.x0"]))
+    before = there(store)
+    said = run("repair", *words, "--replace-damaged", store, status=3)
+    for name in ("s.x0", "s.x1"):
+        hold(f"{name}: can't be put in its place: another name leads there too\n" in said, said)
+    hold(there(store) == before and (store / "s.x1").is_symlink(), f"{sorted(there(store))}: {said}")
 
 
 IN_MOUNTS = """
@@ -255,28 +277,62 @@ def test_all_that_may_be_damaged(place, choose):
                 hold(named[1].split() == order and there(store) == before, f"{damaged}, {words}: {said}")
 
 
-def test_file_that_gets_shorter(place, choose):
-    """A file that gets shorter while it is encoded is refused, and no disk is at fault, or it is encoded as it is then."""
-    calls, store, file = Calls(place, forks=True), place / "store", place / "file"
-    command, tried, data = [Program.path, "encode", store, file], 0, choose.randbytes(6_000)
-    file.write_bytes(data)
-    kinds = calls.run(command).kinds
-    for number, kind in enumerate(kinds, 1):
-        if kind not in ("look", "open", "read"):
-            continue
-        shutil.rmtree(store, ignore_errors=True)
-        file.write_bytes(data)
-        if str(file) not in calls.run(command, number, errno.EIO).paths:
-            continue
-        shutil.rmtree(store, ignore_errors=True)
-        status, said = while_waiting(calls, place, command, number, lambda: os.truncate(file, 5_000))
-        if status == 0:
-            hold((store / "file.file").read_text() in (description(data), description(data[:5_000])), f"call {number}, {kind}: {said}")
-            run("verify", store, status=0)
-        else:
-            tried += 1
-            hold(status == 1 and f"{file}: changed while it was read\n" in said, f"call {number}, {kind}: status {status}: {said}")
-    hold(tried > 1, f"{tried} calls were tried")
+def test_what_cannot_get_its_name_leaves_nothing(place, choose):
+    """Where a new file can't be locked, written to the disk or given its name, or a name can't be given again, nothing of it is left under
+    a temporary name, and each fragment is the old one or the new one."""
+    calls, store, file, tried = Calls(place, forks=True), place / "store", source(place, "a", choose.randbytes(700)), set()
+    run("encode", store, file, status=0)
+    old = there(store)
+    for words, lost in ((["repair"], ("a.x1", "a.file")), (["repair", "--replace-damaged"], ()), (["encode", "--replace"], ())):
+        command = [Program.path, *words, *(["--workers", "1", store] if words[0] == "repair" else [store, file])]
+
+        def anew():
+            shutil.rmtree(store)
+            lay_files(store, old)
+            for name in lost:
+                (store / name).unlink()
+            if "--replace-damaged" in words:
+                for name in ("a.y0", "a.file.copy"):
+                    (store / name).write_bytes(wrong(old[name]))
+
+        file.write_bytes(choose.randbytes(900 if words[0] == "encode" else 700))
+        anew()
+        for number, kind in enumerate(calls.run(command).kinds, 1):
+            if kind in ("lock", "sync", "link", "rename"):
+                anew()
+                ended = calls.run(command, number, errno.EIO)
+                tried.add((*words, kind))
+                left = [path.name for path in store.glob(".rebuild-store-*")]
+                hold(not left and ended.status in (0, 3), f"{words}, call {number}, {kind} of {ended.paths}: {left}: {ended.text()}")
+        run(*command[1:], status=0)
+    hold(len(tried) == 11, f"{tried} were tried")
+
+
+def test_limits_that_are_met(place, choose):
+    """What has just as many bytes as a file may get is written, and what has one more isn't."""
+    store, out, hard = place / "store", place / "out", resource.getrlimit(resource.RLIMIT_FSIZE)[1]
+    file = source(place, "a", choose.randbytes(6 * 4_321))
+    run("encode", store, file, status=0)
+    files = there(store)
+    for most, status in ((4_321, 0), (4_320, 1)):
+
+        def limit(most=most):
+            resource.setrlimit(resource.RLIMIT_FSIZE, (most, hard))
+
+        (store / "a.x1").unlink()
+        said = run("repair", store, status=status, preexec_fn=limit)
+        line = "a: would have 4321 bytes, and no file may get more than 4320 here: ulimit -f\n"
+        hold((line in said) == bool(status) and there(store).get("a.x1") == (None if status else files["a.x1"]), said)
+        run("repair", store, status=0)
+    for most, status in ((6 * 4_321, 0), (6 * 4_321 - 1, 1)):
+
+        def limit_of_file(most=most):
+            resource.setrlimit(resource.RLIMIT_FSIZE, (most, hard))
+
+        said = run("read", "-o", out, store, "a", status=status, preexec_fn=limit_of_file)
+        line = f": would have {6 * 4_321} bytes, and no file may get more than {most} here: ulimit -f\n"
+        hold((line in said) == bool(status) and out.exists() == (not status), said)
+        out.unlink(missing_ok=True)
 
 
 # The options of each command by the synopsis, with the words for their values; letters, defaults and choices.
