@@ -154,6 +154,30 @@ def test_disks_whose_names_begin_alike(place, choose):
         hold(f"disk{gone}/file: " not in said and re.search("^disk1/file: can't be .*: No medium found$", said, re.M), said)
 
 
+def test_file_in_the_place_of_a_disk(place, choose):
+    """A file in the place of a disk's folder is said once, and counts as a disk whose fragments are lost, by each command; it stays."""
+    store, out, data, coded = place / "store", place / "out", choose.randbytes(3_000), ["--code", "6-2-2"]
+    line = f"rebuild-store: {store}/disk3: Not a directory: what should be in it counts as lost\n"
+    lost, unplaced = ("is lost\n", "can't be put in its place: Not a directory\n")
+    for words, status, more in (
+        (["scrub", *coded, store], 1, [f"disk3/a: {lost}", f"disk3/a.file: {lost}"]),
+        (["list", *coded, store], 0, ["degraded 3000 6-2-2 9/10 a\n"]),
+        (["lost", *coded, store], 1, ["rebuild,a,y0,500,x0 x1 x2 y1 y2 px py p0 p1\n", f"disk3/a.file: {lost}"]),
+        (["verify", store], 0, ["verified 1 file; not as described: 0\n", "disk3/a: left out: Not a directory\n"]),
+        (["read", "-o", out, store, "a"], 0, ["disk3/a: left out: Not a directory\n"]),
+        (["repair", *coded, store], 3, [f"disk3/a: {unplaced}", f"disk3/a.file: {unplaced}"]),
+        (["remove", *coded, store, "a"], 0, ["removed 1 file; not removed: 0\n"]),
+    ):
+        if not store.exists():
+            run("encode", "--make-folders", *coded, "--names", "disk{shard}/{stripe}", store, source(place, "a", data), status=0)
+            shutil.rmtree(store / "disk3")
+            (store / "disk3").write_bytes(b"file")
+        said = run(words[0], "--names", "disk{shard}/{stripe}", *words[1:], status=status)
+        hold(said.count(line) == (words[0] != "read") and all(said.count(it) == 1 for it in more), f"{words}: {said}")
+        hold((store / "disk3").read_bytes() == b"file" and "can't be looked at" not in said, f"{words}: {said}")
+    hold(out.read_bytes() == data and not [*store.glob("disk*/*")], f"{sorted(there(store))}")
+
+
 def test_names_and_rights_of_unfinished_files(place, choose):
     """What a run writes has a name of the form of the manual page until it is whole, and nobody else may read a fragment meanwhile."""
     calls, store, digits = Calls(place, forks=True), place / "store", "[0-9a-f]{16}"
