@@ -84,6 +84,12 @@ def test_links_of_another_folder(place, choose):
     said = run("repair", "--follow-links", "--to", to, store, status=3)
     hold(f"a.x1: {SHARED}\n" in said and f"b.y1: {SHARED}\n" not in said, said)
     hold(not end.exists() and there(to) == {"b.y1": files["b.y1"]}, f"{sorted(there(place))}")
+    # So it is if its link there leads to one of the store that is lost.
+    for path in (to / "a.x1", to / "b.y1", store / "b.y1"):
+        path.unlink()
+    (to / "a.x1").symlink_to(store / "b.y1")
+    said = run("repair", "--follow-links", "--to", to, store, status=3)
+    hold(f"a.x1: {SHARED}\n" in said and not (store / "b.y1").exists() and there(to) == {"b.y1": files["b.y1"]}, said)
 
 
 def test_other_folders_of_two_names(place, choose):
@@ -160,6 +166,29 @@ def test_store_of_which_no_stripe_fits(place, choose):
     for words in (more, CODE):
         said = run("repair", "--reads", "all", *words, store, status=1)
         hold(contradiction in said and "no stripe fits" not in said, said)
+
+
+def test_highest_status(place, choose):
+    """Of several reasons to refuse a store that with the highest status ends the run: before digests that are none, a path that isn't one
+    for a report, a folder of another user, and a list of stripes that can't be read."""
+    store = place / "store"
+    lay(store, choose)
+    (store / "SHA256SUMS").write_text("no digest\n")
+    bad = f"rebuild-store: {store}/SHA256SUMS: line 1 isn't as sha256sum writes it"
+    of_report = f"rebuild-store: {store}/s.x3: is a file of the store, and no place for a report\n"
+    of_list = f"rebuild-store: {place}/names: {os.strerror(2)}\n"
+    tries = [(command, *case) for command in ("scrub", "repair") for case in (
+        ([], bad, 1), (["--report", store / "s.x3"], of_report, 2), (["--progress", store / "s.x3"], of_report, 2),
+        (["--stripes", place / "names"], of_list, 3))]
+    for command, words, line, status in tries:
+        said = run(command, *words, store, status=status)
+        hold(said.startswith(line) and said.count("\n") == 1, f"{command} {words}: {said}")
+    if os.geteuid() == 0:
+        os.chown(store, 7, 7)
+        said = run("repair", store, status=2)
+        hold(said.startswith(f"rebuild-store: {store}: user 7 or others may write there") and said.count("\n") == 1, said)
+        said = run("repair", "--trust-writers", store, status=1)
+        hold(said.startswith(bad), said)
 
 
 def test_disks_whose_folders_cannot_be_listed(place, choose):
