@@ -67,6 +67,27 @@ def test_links_to_what_a_run_is_given(place, choose):
             hold((store / "a.x1").is_symlink() and not (store / "a.x1.damaged").is_symlink(), f"{option}: {sorted(there(store))}")
 
 
+def test_outputs_in_a_circle(place, choose):
+    """A report or counters of which isn't known where they are end a run before it does anything, and a relative path is held to the
+    store's names as well."""
+    store = place / "store"
+    files = lay(store, choose)
+    files.pop("s.x1")
+    (store / "s.x1").unlink()
+    for name, end in (("one", "two"), ("two", "one")):
+        (place / name).symlink_to(end)
+    for command in ("scrub", "repair"):
+        for option in ("--report", "--progress"):
+            said = run(command, option, place / "one", store, status=3)
+            hold(said.startswith(f"rebuild-store: {place}/one: ") and said.count("\n") == 1, said)
+            hold(there(store) == files and (place / "one").is_symlink(), f"{option}: {sorted(there(store))}")
+    (store / "s.x1").symlink_to("../end")
+    for option in ("--report", "--progress"):
+        said = run("repair", "--follow-links", option, "end", store, status=3, cwd=place)
+        hold(f"s.x1: {SHARED}\n" in said and "repaired 0 " in said, f"{option}: {said}")
+        (place / "end").unlink()
+
+
 def test_links_of_another_folder(place, choose):
     """What links in the folder of --to lead to is held to the other names there and in the store."""
     store, to, end = place / "store", place / "to", place / "end"
