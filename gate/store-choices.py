@@ -7,8 +7,10 @@ can't be listed, stores of which no stripe fits, limits on what is there already
 It runs what was built last, or PROGRAM, and of the tests those whose names have TEST in them."""
 
 import contextlib
+import errno
 import json
 import os
+import pathlib
 import pty
 import resource
 import shutil
@@ -17,7 +19,10 @@ import sys
 
 # No compiled copy of the modules is left beside them.
 sys.dont_write_bytecode = True
+ROOT = pathlib.Path(__file__).resolve().parent.parent
+sys.path.append(str(ROOT / "tools"))
 import refusals  # noqa: E402
+from faults import Calls  # noqa: E402
 from stores import SECONDS, Program, Skipped, digest, hold, lay, lay_files, run, source, there, try_all, write_sums  # noqa: E402
 
 CODE = ["--code", "6-2-2"]
@@ -310,6 +315,39 @@ def test_repairs_without_a_line(place, choose):
             path.unlink()
         said, status = on_terminal("repair", "--reads", "all", "--rate", "1000", "-j", "1", *words, store, how=how)
         hold(status == int("--dry-run" in words) and ("repair: " in said) == has_line, f"{words}: status {status}: {said!r}")
+
+
+def test_plan_over_the_limit(place, choose):
+    """A dry run makes no file, so that it says what a repair would do also where files may not get as long as that; a repair is refused."""
+    store, limit = place / "store", 400
+    files = lay(store, choose)
+    (store / "s.x1").unlink()
+
+    def limited():
+        resource.setrlimit(resource.RLIMIT_FSIZE, (limit, limit))
+
+    said = run("repair", "--dry-run", store, status=1, preexec_fn=limited)
+    hold("; 1 can be rebuilt (0 unchecked), 0 can't;" in said and "ulimit" not in said, said)
+    said = run("repair", store, status=1, preexec_fn=limited)
+    hold(said == f"rebuild-store: s: would have 600 bytes, and no file may get more than {limit} here: ulimit -f\n", said)
+    # What isn't lost may be as long as it is.
+    (store / "s.x1").write_bytes(files["s.x1"])
+    run("repair", store, status=0, preexec_fn=limited)
+
+
+def test_disks_that_cannot_be_looked_at(place, choose):
+    """If the system refuses once to show the folder of a disk, that is said and gives the status of a device, wherever in a run it is."""
+    calls, store, tried = Calls(place, forks=True), place / "store", 0
+    lay(store, choose, ("a",), pattern="disk{shard}/{stripe}")
+    for command in (["scrub"], ["lost"], ["list"], ["repair"], ["repair", "--dry-run"]):
+        words = [Program.path, *command, *DISKS, *(["-j", "1"] if command[0] in ("scrub", "repair") else []), store]
+        for number, kind in enumerate(calls.run(words).kinds, 1):
+            ended = calls.run(words, number, errno.EIO) if kind == "look" else None
+            if ended and ended.paths[0] == str(store / "disk9"):
+                tried += 1
+                line = f"rebuild-store: {store}/disk9: {os.strerror(errno.EIO)}: what should be in it counts as lost\n"
+                hold(ended.status == 3 and ended.err.count(line) == 1, f"{command}, call {number}: {ended.text()}")
+    hold(tried >= 10, f"{tried} calls were tried")
 
 
 if __name__ == "__main__":
