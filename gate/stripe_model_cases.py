@@ -12,6 +12,7 @@ import stat
 import subprocess
 
 from stripe_model_listing import NOBODY, Listing, has_right
+from stripe_model_lists import finish_list
 from stripe_model_names import KEPT, OF_RUNS, RUN, escaped
 from stripe_model_runs import REMOVED, Options, Run, finish, finish_lost
 from stripe_model_stripes import File, file_at
@@ -21,6 +22,8 @@ from stores import SECONDS, Fault, Program
 SUM = re.compile(rb"(\\?)([0-9a-fA-F]{64})(?:  | \*)(?:\./)?(.+)", re.S)
 IS_LOCK = re.compile(rf"\0*|{RUN}\n".encode())
 COUNTERS = {"units", "units_done", "bytes", "bytes_done", "damaged", "left", "seconds", "status", "end_seconds"}
+# What says what is there, and writes nothing but that.
+LOOKS = ("lost", "list")
 KEYS = ["stripe", "place", "outcome", "detail"]
 
 
@@ -146,21 +149,21 @@ class Case:
         """Options at random for a command."""
         laid, choose = self.laid, self.choose
         is_given = "{shard}" in laid.names or choose.random() < self.mix.given_code
-        sums = str(laid.sums_file) if laid.sums_file and command != "lost" else None
+        sums = str(laid.sums_file) if laid.sums_file and command not in LOOKS else None
         options = Options(command, str(laid.store), laid.given_code if is_given else None, laid.names, laid.layout, laid.follow, sums=sums,
                           stripes=laid.expected, user=laid.user)
         if choose.random() < self.mix.part:
             count = choose.choice((2, 2, 3))
             options.part = (choose.randrange(1, count + 1), count)
-        if command != "lost" and choose.random() < 0.4:
+        if command not in LOOKS and choose.random() < 0.4:
             options.report = str(self.place / "report")
         if options.report and choose.random() < self.mix.bad_reports:
             options.report = str(self.report_in_store())
-        if command != "lost" and choose.random() < 0.3:
+        if command not in LOOKS and choose.random() < 0.3:
             options.progress = str(self.place / "counters")
         if choose.random() < 0.3:
             options.json = True
-        if command != "lost":
+        if command not in LOOKS:
             options.quiet, options.workers = choose.random() < 0.1, choose.choice((1, 2, None))
         options.reads_word, options.others, options.form = None, [], choose.choice(("", "", "=", "short"))
         for name, value in given.items():
@@ -224,9 +227,13 @@ class Case:
             path.write_bytes(data if kind == "same" else b"another")
 
     def try_all(self):
-        """A scrub, a list of what is lost, a dry run, the repair, and a scrub and a repair of what is there then."""
+        """A scrub, a list of what is lost, one of the files, a dry run, the repair, and a scrub and a repair of what is there then."""
         self.run(self.options("scrub"))
         self.run(self.options("lost"))
+        # With a choice of its own it leaves the others as they are.
+        choose, self.choose = self.choose, random.Random(f"{self.seed} list")
+        self.run(self.options("list"))
+        self.choose = choose
         for _ in range(2):
             given = self.repair_options()
             self.run(self.options("repair", dry=True, **given))
@@ -289,16 +296,16 @@ class Case:
         if is_open:
             # How many files a stripe has, if its fragments have one length.
             self.there = {stripe.name: len(stripe.files) for stripe in run.stripes}
-        if is_open and options.command != "lost":
+        if is_open and options.command not in LOOKS:
             run.say_alone(options.dry)
             self.expect_leftovers(run, options)
             works = list(run.work())
         elif is_open:
-            finish_lost(run)
+            (finish_lost if options.command == "lost" else finish_list)(run)
         before = {path: file_at(path) if os.path.isfile(path) else None for works_of in works for done in works_of for path in done.files}
         ended = subprocess.run([Program.path, *words], stdin=subprocess.DEVNULL, capture_output=True, timeout=SECONDS, **self.as_user())
         err = ended.stderr.decode()
-        if is_open and options.command != "lost":
+        if is_open and options.command not in LOOKS:
             finish(run, [self.chosen(dones, before, err) for dones in works])
         return ended.returncode, ended.stdout.decode(), err
 
@@ -367,13 +374,15 @@ class Case:
     def compare(self, expected, options, is_open, status, out, err):
         out_lines, err_lines = out.split("\n")[:-1], err.split("\n")[:-1]
         if expected.last is not None:
-            # With --json, and of `lost`, the last line is on standard error.
-            lines = err_lines if options.json or options.command == "lost" else out_lines
+            # With --json, and of `lost` and `list`, the last line is on standard error.
+            lines = err_lines if options.json or options.command in LOOKS else out_lines
             self.hold(f"the last line of {out}{err}", lines.pop() if lines else None, expected.last)
         self.hold(f"standard error {err}", *without_choice(err_lines, expected.err))
         if expected.first is not None:
             self.hold("the first line", out_lines[:1], [expected.first])
-        if is_open and options.json and options.command != "lost":
+        if options.command == "list":
+            self.hold("standard output", [json.loads(line) for line in out_lines] if options.json else out_lines, expected.out)
+        elif is_open and options.json and options.command != "lost":
             self.compare_rows(options, out, expected)
         else:
             came, wanted = without_choice(out_lines, expected.out)
