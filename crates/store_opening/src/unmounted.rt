@@ -56,7 +56,8 @@ fn unmounted_folders(
             _ => {}
         }
     }
-    if mounted <= unmounted.len().saturating_add(unseen.len()) {
+    // A folder that can't be looked at counts for neither: what is mounted there may have failed.
+    if mounted <= unmounted.len() {
         unmounted.clear();
     }
     unseen.append(&mut unmounted)?;
