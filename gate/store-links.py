@@ -144,6 +144,26 @@ def test_wrong_description_decides_nothing(place, choose):
             hold(first.read_text() == description(data, code), "it isn't replaced")
 
 
+def test_rights_of_what_links_lead_to(place, choose):
+    """What is made beside links gets the rights of what these lead to, as links themselves give all rights to everybody."""
+    store, elsewhere = place / "store", place / "elsewhere"
+    elsewhere.mkdir()
+    run("encode", "--make-folders", *DISKS, store, source(place, "a", choose.randbytes(600)), status=0)
+    for number in range(10):
+        for name in ("a", "a.file"):
+            path, end = store / f"disk{number}" / name, elsewhere / f"{name}{number}"
+            path.rename(end)
+            end.chmod(0o640)
+            path.symlink_to(end)
+    for name in ("a", "a.file"):
+        for made in (store / "disk3" / name, elsewhere / f"{name}4"):
+            made.unlink()
+        run("repair", "--follow-links", *DISKS, store, status=0)
+        for made in (store / "disk3" / name, elsewhere / f"{name}4"):
+            hold(made.lstat().st_mode & 0o7777 == 0o640, f"{made} has the rights {made.lstat().st_mode:o}")
+        hold((store / "disk4" / name).is_symlink(), f"disk4/{name} is no link any more")
+
+
 def test_links_in_a_circle(place, choose):
     """Links that lead to each other are said, and followed without an end by nobody."""
     for names, folder in ((["--code", "6-2-2"], None), (DISKS, "disk3"), (FOLDERS, "a")):
