@@ -45,3 +45,14 @@ def loses_cause(both):
     if both.trial.words[0] == "read":
         return both.first.kind not in ("write", "chown", "chmod")
     return is_of_record or both.first.kind in GIVING
+
+
+def leaves_status(failed):
+    """A leftover that couldn't be removed before an encode is refused is said, and the status is that of the refusal."""
+    return failed.trial.words[0] == "encode" and all(": is left over, and can't be removed: " in line for line in failed.said)
+
+
+def leaves_unsaid(both):
+    """A file that was made and couldn't be locked or looked at, and then not be removed, isn't said where another one is made, or an output
+    is written as it is."""
+    return both.first.kind in ("lock", "look") and any(map(is_unfinished, both.first.paths)) and any(map(is_unfinished, both.paths))

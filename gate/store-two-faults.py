@@ -16,6 +16,7 @@ import difflib
 import errno
 import os
 import random
+import re
 import sys
 
 # No compiled copy of the modules is left beside them.
@@ -28,7 +29,7 @@ import trees  # noqa: E402
 from call_classes import class_of  # noqa: E402
 from drawn import STAGED, SUMS  # noqa: E402
 from failed_runs import RANDOM, Failed, Trial, is_unfinished  # noqa: E402
-from known_faults import loses_cause  # noqa: E402
+from known_faults import leaves_status, leaves_unsaid, loses_cause  # noqa: E402
 from laws import LAST  # noqa: E402
 from laws_of_files import judge_of  # noqa: E402
 from stores import Fault, Program, hold, try_all  # noqa: E402
@@ -36,9 +37,12 @@ from stores import Fault, Program, hold, try_all  # noqa: E402
 DEVICE = 3
 # So many calls fail first in each store, and after each so many.
 FIRSTS, SECONDS = 6, 3
+# How long files are at most that are encoded beside what was there: reading them in pieces takes many calls.
+MOST_BYTES = 100_000
 # The errors of the second call, with which nothing else is done than with an I/O error.
 ERRORS = (errno.ENXIO, errno.EFBIG)
 # Calls by which a run clears up, before others.
+READ_AGAIN = ": was replaced meanwhile, and is read again"
 OF_FILES = {"encode", "read", "verify", "remove"}
 CLEARING = ("unlink", "rmdir", "rename", "look", "sync", "lock", "readlink", "open")
 
@@ -128,7 +132,8 @@ def is_one_fault(both, judges):
 def hold_both(both, number_alone):
     """Holds a run with two failures to what is said of it at the head of this script."""
     first, earlier = both.first, Earlier(both)
-    if "output" in (both.kind, first.kind):
+    if "output" in (both.kind, first.kind) or READ_AGAIN in both.ran.err:
+        # What failed at first doesn't fail if a file is read again.
         return
     judges = [judge_of(both), judge_of(earlier)]
 
@@ -144,7 +149,8 @@ def hold_both(both, number_alone):
             holds(both.said, f"{both.error!r} isn't said any more")
     holds(both.ran.status >= first.ran.status, f"status {both.ran.status}, and {first.ran.status} with the first failure alone")
     hold_left(both, judges, holds)
-    judges[0].hold_again()
+    # A file that couldn't be given away is its user's after the same command again.
+    judges[first.kind == "chown"].hold_again()
 
 
 def hold_left(both, judges, holds):
@@ -157,7 +163,7 @@ def hold_left(both, judges, holds):
             continue
         if is_unfinished(path):
             holds(any(judge.may_be_left(path) for judge in judges), f"{path} is left over")
-            holds(both.ran.status == DEVICE, f"{path} is left over, and the status is {both.ran.status}")
+            holds(both.ran.status == DEVICE or leaves_unsaid(both), f"{path} is left over, and the status is {both.ran.status}")
         else:
             holds(any(judge.may_be(path, has) for judge in judges), f"{path} is {has}")
 
@@ -234,8 +240,9 @@ def test_lost(place, _choose):
 
 # A table of mounts by which nothing is known of locks, so that a run that writes makes the file of one and removes it.
 NO_TABLE = "no line of a table\n"
-REFUSALS = (": is there already, with other bytes", ": is no regular file, and isn't removed", ": is a link to nothing, and nothing",
-            ": is no file of the store ")
+# What is said once all names of a file were looked at.
+NO_FILE = ": is no file of the store "
+REFUSALS = (": is there already, with other bytes", ": is no regular file, and isn't removed", ": is a link to nothing, and nothing", NO_FILE)
 CHANGES = {"create", "write", "link", "rename", "sync", "unlink"}
 
 
@@ -319,7 +326,7 @@ def hold_refused(failed, lines):
     lacks = [line for line in lines if line not in failed.lines]
     hold(not lacks, f"isn't said any more: {lacks}: {failed.text()}")
     hold(status in (whole, DEVICE), f"status {status}, and {whole} without a failure: {failed.text()}")
-    if failed.said:
+    if failed.said and not leaves_status(failed):
         hold(status == DEVICE, f"{failed.said} with status {status}: {failed.text()}")
 
 
@@ -329,25 +336,38 @@ def try_refused_files(place, seed, draw):
     (place / "trial").mkdir()
     try:
         trial = Trial(place / "trial", *draw(choose))
-        kinds, lines = trial.ended.kinds, [line for line in trial.ended.err.splitlines() if any(words in line for words in REFUSALS)]
+        kinds, lines = trial.ended.kinds, [*filter(is_refusal, trial.ended.err.splitlines())]
         last = max((number for number, kind in enumerate(kinds, 1) if kind in CHANGES), default=len(kinds))
         numbers = {*range(last + 1, len(kinds) + 1), *(number for number, kind in enumerate(kinds, 1) if kind in ("unlink", "rmdir"))}
         for number in choose.sample(sorted(numbers), min(len(numbers), 20)) if lines else []:
             failed = Failed(trial, number, choose.choice((errno.EIO, errno.EROFS)))
-            if failed.is_made and failed.kind != "output" and (number > last or all(map(is_made_by_run, failed.paths))):
-                hold_refused(failed, lines)
+            is_late = number > last and (failed.kind == "rmdir" or is_of_description(trial, failed))
+            if failed.is_made and failed.kind != "output" and (is_late or all(map(is_made_by_run, failed.paths))):
+                hold_refused(failed, [line for line in lines if failed.kind == "rmdir" or NO_FILE not in line])
     except (Fault, faults.Fault) as fault:
         raise Fault(f"seed {seed!r}: {fault}") from None
     trial.take_away()
+
+
+def is_refusal(line):
+    """Whether a line says why a file is refused, but by its description, before which nothing is done."""
+    return any(words in line and not re.search(r"\.file(\.copy)?$", line.split(words)[0]) for words in REFUSALS)
 
 
 def is_made_by_run(path):
     return is_unfinished(path) or STAGED in path
 
 
+def is_of_description(trial, failed):
+    """Whether a call that failed is of a description. These go before fragments, so that the file is refused by a fragment then."""
+    return all(path.endswith((".file", ".file.copy")) for path in failed.paths) and "unlink" in trial.ended.kinds
+
+
 def with_taken_names(choose):
     """Files that are encoded, of which some fragments have the names of others."""
     store, words, tree, *given = drawn_files.encode(choose)
+    while any(len(entry.data) > MOST_BYTES // 12 for entry in tree.values()):
+        store, words, tree, *given = drawn_files.encode(choose)
     for name in store.sources.values():
         data = tree[f"sources/{name}"].data
         if choose.random() < 0.7 and name not in store.data and data:
