@@ -41,7 +41,7 @@ def loses_cause(both):
     if not is_of_made:
         return False
     of_records = ("SHA256SUMS: ", ".file: ", ".file.copy: ", "can't be written: ")
-    is_of_record = any(words + both.error in line for line in both.said for words in of_records)
+    is_of_record = any(words in line for line in both.said for words in of_records)
     if both.trial.words[0] == "read":
         return both.first.kind not in ("write", "chown", "chmod")
     return is_of_record or both.first.kind in GIVING

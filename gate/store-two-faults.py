@@ -12,7 +12,6 @@ the first failure, or what a run with one failure may leave; what is left over i
 names the seed of the store, the command and the calls. With SEED that store alone is tried, or COUNT from it on."""
 
 import collections
-import difflib
 import errno
 import os
 import random
@@ -84,14 +83,13 @@ def plain(line):
 
 
 def of_first_alone(first):
-    """The numbers of the calls that a run makes only because one failed, and those of others with the numbers that they have in the whole
-    run."""
+    """The numbers of the calls that a run makes only because one failed, and those of the others after it with the numbers that they have
+    in the whole run, whose last calls are of the same kinds."""
     whole, kinds = first.trial.ended.kinds, first.ran.kinds
-    matched = {}
-    for one, other, size in difflib.SequenceMatcher(None, whole, kinds, autojunk=False).get_matching_blocks():
-        matched |= {other + k + 1: one + k + 1 for k in range(size)}
-    after = range(first.number + 1, len(kinds) + 1)
-    return [number for number in after if number not in matched], {number: matched[number] for number in after if number in matched}
+    more, end = len(kinds) - len(whole), len(kinds)
+    while end > first.number and end > first.number + more and kinds[end - 1] == whole[end - 1 - more]:
+        end -= 1
+    return [*range(first.number + 1, end + 1)], {number: number - more for number in range(end + 1, len(kinds) + 1)}
 
 
 def chosen_seconds(choose, first, seen):
