@@ -36,7 +36,8 @@ GIVING = {"sync", "link", "rename", "look", "open", "chown", "chmod"}
 
 def loses_cause(both):
     """Of a file that can't get its name, and then can't be removed either, the last alone is said; so it is of a report, counters, digests
-    or a description whose file can't be written, and of a fragment that is left out while a file is read into another one."""
+    or a description whose file can't be written, and of a fragment that is left out while a file is read into another one. Of several
+    files that a repair can't remove at a stripe one is said."""
     is_of_made = both.kind in ("unlink", "look") and any(map(is_unfinished, both.paths)) and both.said
     if not is_of_made:
         return False
@@ -44,7 +45,7 @@ def loses_cause(both):
     is_of_record = any(words in line for line in both.said for words in of_records)
     if both.trial.words[0] == "read":
         return both.first.kind not in ("write", "chown", "chmod")
-    return is_of_record or both.first.kind in GIVING
+    return is_of_record or both.first.kind in GIVING or both.trial.words[0] == "repair" and both.first.kind == "unlink"
 
 
 def leaves_status(failed):
