@@ -8,8 +8,9 @@
  * Two calls fail by FAIL_NUMBER=N,M and FAIL_HOW=E,F, each with an error of its own: the Nth answers E, and the Mth, a later one, F.
  * FAIL_REST=kind has all later calls of its kind answer that error too, and FAIL_REST=path those of them at its path. With FAIL_BUT no call
  * is counted whose path begins so, and no thread can be had, so that the same calls have the same numbers in each run; calls that read a
- * link or remove a folder are counted then too. With FAIL_MOUNTS the table of mounts is the file of that path. Counting begins with `main`. The file FAIL_RECORD gets what `struct record` has; it is
- * mapped, so it is right however the program ends. Many runs may share a start: fork-runs.h. */
+ * link or remove a folder are counted then too. With FAIL_MOUNTS the table of mounts is the file of that path. Counting begins with
+ * `main`. The file FAIL_RECORD gets what `struct record` has; it is mapped, so it is right however the program ends. Many runs may share a
+ * start: fork-runs.h. */
 #define _GNU_SOURCE
 #include <dirent.h>
 #include <dlfcn.h>

@@ -45,6 +45,9 @@ def loses_cause(both):
     is_of_record = any(words in line for line in both.said for words in of_records)
     if both.trial.words[0] == "read":
         return both.first.kind not in ("write", "chown", "chmod")
+    if both.first.kind == "write" and both.trial.words[0] == "encode":
+        # After one of the fragments all of them are removed, one after the other.
+        return both.first.ran.kinds[both.first.number:][:3] != ["unlink"] * 3
     return is_of_record or both.first.kind in GIVING or both.trial.words[0] == "repair" and both.first.kind == "unlink"
 
 

@@ -134,6 +134,9 @@ def hold_both(both, number_alone):
         # What failed at first doesn't fail if a file is read again.
         return
     judges = [judge_of(both), judge_of(earlier)]
+    if both.trial.words[0] == "repair" and not judges[0].differing and both.ran.status == both.trial.ended.status:
+        # What few fragments give was made again of all.
+        return
 
     def holds(is_so, what):
         hold(is_so, f"{what}: {both.text()}")
@@ -240,7 +243,8 @@ def test_lost(place, _choose):
 NO_TABLE = "no line of a table\n"
 # What is said once all names of a file were looked at.
 NO_FILE = ": is no file of the store "
-REFUSALS = (": is there already, with other bytes", ": is no regular file, and isn't removed", ": is a link to nothing, and nothing", NO_FILE)
+REFUSALS = (": is there already, with other bytes", ": is no regular file, and isn't removed", ": is a link to nothing, and nothing",
+            NO_FILE)
 CHANGES = {"create", "write", "link", "rename", "sync", "unlink"}
 
 
@@ -254,8 +258,9 @@ def unfit(choose, store, words):
     elif way == "names" and "--names" not in words:
         words[1:1] = ["--names", "{stripe}-of-{place}"]
     elif way == "fits":
-        store.within = {path: entry if entry.kind != trees.FILE or path not in store.right else entry._replace(
-            data=choose.randbytes(len(entry.data))) for path, entry in store.within.items() if path != SUMS}
+        wrong = {path: entry for path, entry in store.within.items() if path in store.right and entry.kind == trees.FILE}
+        store.within |= {path: entry._replace(data=choose.randbytes(len(entry.data))) for path, entry in wrong.items()}
+        store.within.pop(SUMS, None)
     elif way == "report" and "--report" not in words and words[0] in ("repair", "scrub"):
         words[1:1] = ["--report", f"PLACE/store/{choose.choice(sorted(store.right))}"]
     elif way == "writers":
