@@ -5,10 +5,12 @@
  * another program might have made, is under the name that a link is about to give. With `unsynced` no sync is made, and each answers that
  * it was; with `wait` the program makes the file FAIL_REACHED and goes on when FAIL_UNTIL is there, so that others come between. With
  * `slow` each read takes FAIL_NUMBER milliseconds more, as one from a slow disk, and no call fails.
+ * Two calls fail by FAIL_NUMBER=N,M and FAIL_HOW=E,F, each with an error of its own: the Nth answers E, and the Mth, a later one, F.
  * FAIL_REST=kind has all later calls of its kind answer that error too, and FAIL_REST=path those of them at its path. With FAIL_BUT no call
  * is counted whose path begins so, and no thread can be had, so that the same calls have the same numbers in each run; calls that read a
- * link or remove a folder are counted then too. Counting begins with `main`. The file FAIL_RECORD gets what `struct record` has; it is
- * mapped, so it is right however the program ends. Many runs may share a start: fork-runs.h. */
+ * link or remove a folder are counted then too. With FAIL_MOUNTS the table of mounts is the file of that path. Counting begins with
+ * `main`. The file FAIL_RECORD gets what `struct record` has; it is mapped, so it is right however the program ends. Many runs may share a
+ * start: fork-runs.h. */
 #define _GNU_SOURCE
 #include <dirent.h>
 #include <dlfcn.h>
@@ -38,17 +40,19 @@ struct record {
     char kinds[MOST_CALLS][MOST_KIND];
     /* The path that the call that failed was given, or at which its file was opened; of two paths both, with a line's end between. */
     char path[MOST_PATH];
+    /* The same of the second one, where two are to fail. */
+    char second_path[MOST_PATH];
 };
 
 enum how { ERROR, KILL, SHORT, MEANWHILE, UNSYNCED, WAIT, SLOW };
 
 static struct record unmapped;
 static struct record *record = &unmapped;
-static uint64_t number;
+static uint64_t number, second_number;
 static enum how how;
-static int error_number;
+static int error_number, second_error;
 static enum { NONE, ALL_OF_KIND, ALL_AT_PATH } fails_later;
-static const char *left_out = "";
+static const char *left_out = "", *mounts = "";
 
 /* The system's function of this name, which is looked up once in each place that calls it. */
 #define SYSTEM(name)                                \
@@ -87,19 +91,29 @@ static const char *path_of(int file, char *room, size_t size)
 /* A call that may fail: the path that it was given, of two both, or else the file that it was given. */
 struct call {
     const char *kind, *path, *other;
-    int file;
+    int file, is_second;
 };
 
-/* Whether the call of this number, the one that is to fail or a later one, fails. A killed program ends here. */
+/* Notes the path of a call that fails. */
+static void note_failed(char *to, const char *path, const struct call *call)
+{
+    snprintf(to, MOST_PATH, "%s%s%s", path, call->other == NULL ? "" : "\n", call->other == NULL ? "" : call->other);
+    atomic_fetch_add(&record->failed, 1);
+}
+
+/* Whether the call of this number, one that is to fail or a later one, fails. A killed program ends here. */
 static int is_met(uint64_t own, const struct call *call)
 {
     char room[MOST_PATH - 1];
     const char *path = call->path == NULL ? path_of(call->file, room, sizeof room) : call->path;
+    if (own == second_number) {
+        note_failed(record->second_path, path, call);
+        return 1;
+    }
     if (own > number)
         return number <= MOST_CALLS && strncmp(call->kind, record->kinds[number - 1], MOST_KIND) == 0 &&
                (fails_later == ALL_OF_KIND || strcmp(path, record->path) == 0);
-    snprintf(record->path, MOST_PATH, "%s%s%s", path, call->other == NULL ? "" : "\n", call->other == NULL ? "" : call->other);
-    atomic_fetch_add(&record->failed, 1);
+    note_failed(record->path, path, call);
     if (how == KILL) {
         kill(getpid(), SIGKILL);
         pause();
@@ -116,11 +130,17 @@ static int is_left_out(const struct call *call)
     if (*left_out == 0)
         return 0;
     const char *path = call->path == NULL ? path_of(call->file, room, sizeof room) : call->path;
-    return strncmp(path, left_out, strlen(left_out)) == 0;
+    return strncmp(path, left_out, strlen(left_out)) == 0 || (*mounts && strcmp(path, mounts) == 0);
 }
 
-/* Whether a call is the one that is to fail, or a later one of its kind where those fail too: of these alone files' paths are looked up. */
-static int is_chosen(const struct call *call)
+/* The error that a call answers which fails. */
+static int error_now(const struct call *call)
+{
+    return call->is_second ? second_error : error_number;
+}
+
+/* Whether a call is one that is to fail, or a later one of its kind where those fail too: of these alone files' paths are looked up. */
+static int is_chosen(struct call *call)
 {
     if (atomic_load(&record->counts) == 0)
         return 0;
@@ -134,16 +154,17 @@ static int is_chosen(const struct call *call)
     uint64_t own = atomic_fetch_add(&record->calls, 1) + 1;
     if (own <= MOST_CALLS)
         memcpy(record->kinds[own - 1], call->kind, strnlen(call->kind, MOST_KIND));
-    if (number == 0 || own < number || (own > number && fails_later == NONE))
+    call->is_second = second_number != 0 && own == second_number;
+    if (number == 0 || own < number || (own > number && fails_later == NONE && !call->is_second))
         return 0;
     return is_met(own, call);
 }
 
-static int fails_call(const struct call *call)
+static int fails_call(struct call *call)
 {
     if (!is_chosen(call) || how != ERROR)
         return 0;
-    errno = error_number;
+    errno = error_now(call);
     return 1;
 }
 
@@ -160,13 +181,14 @@ static int fails_at(const char *kind, int file)
 /* How many of a call's bytes are to be taken, or none where it fails. */
 static ssize_t taken(const char *kind, int file, size_t size)
 {
-    if (!is_chosen(&(struct call){.kind = kind, .file = file}))
+    struct call call = {.kind = kind, .file = file};
+    if (!is_chosen(&call))
         return (ssize_t)size;
     if (how == SHORT)
         return (ssize_t)(size > 1 ? size / 2 : size);
     if (how != ERROR)
         return (ssize_t)size;
-    errno = error_number;
+    errno = error_now(&call);
     return -1;
 }
 
@@ -177,7 +199,9 @@ static const char *kind_of_write(int file)
 
 static int opened(const char *kind, int folder, const char *path, int flags, mode_t mode)
 {
-    return fails(kind, path, NULL) ? -1 : SYSTEM(openat)(folder, path, flags, mode);
+    if (fails(kind, path, NULL))
+        return -1;
+    return SYSTEM(openat)(folder, *mounts && strcmp(path, "/proc/self/mountinfo") == 0 ? mounts : path, flags, mode);
 }
 
 static const char *kind_of_open(int flags)
@@ -351,14 +375,19 @@ static void read_how(const char *text)
         if (strcmp(text, ways[way]) == 0)
             how = way;
     error_number = atoi(text);
+    const char *second = strchr(text, ',');
+    second_error = second == NULL ? error_number : atoi(second + 1);
 }
 
 static void read_settings(void)
 {
-    number = strtoull(text_of("FAIL_NUMBER"), NULL, 10);
+    char *rest_of_numbers;
+    number = strtoull(text_of("FAIL_NUMBER"), &rest_of_numbers, 10);
+    second_number = *rest_of_numbers == ',' ? strtoull(rest_of_numbers + 1, NULL, 10) : 0;
     const char *rest = text_of("FAIL_REST");
     fails_later = strcmp(rest, "kind") == 0 ? ALL_OF_KIND : strcmp(rest, "path") == 0 ? ALL_AT_PATH : NONE;
     left_out = text_of("FAIL_BUT");
+    mounts = text_of("FAIL_MOUNTS");
     read_how(text_of("FAIL_HOW"));
 }
 

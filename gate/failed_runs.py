@@ -37,18 +37,18 @@ def calls_in(place):
 class Trial:
     """A command, its words, in which PLACE is the folder that has the store, and what is in that folder before."""
 
-    def __init__(self, place, drawn, words, tree, given=None):
-        self.place, self.drawn, self.given = place, drawn, given
+    def __init__(self, place, drawn, words, tree, given=None, mounts=""):
+        self.place, self.drawn, self.given, self.mounts = place, drawn, given, mounts
         self.command = [Program.path, *(word.replace("PLACE", str(place)) for word in words)]
         self.words, self.before, self.now = words, tree, {}
         self.calls = calls_in(place.parent)
         self.ended, self.after = self.run(tree)
         self.known = {}
 
-    def run(self, tree, number=0, how="", rest=""):
+    def run(self, tree, number=0, how="", rest="", second=None):
         """Runs the command over a tree. Gives how it ended, and what is there then."""
         trees.change(self.place, self.now, tree)
-        ended = self.calls.run(self.command, number, how, rest, given=self.given)
+        ended = self.calls.run(self.command, number, how, rest, given=self.given, second=second, mounts=self.mounts)
         self.now = trees.look(self.place)
         return ended, self.now
 

@@ -16,10 +16,11 @@ import runs
 
 ROOT = pathlib.Path(__file__).resolve().parent.parent
 SECONDS = 300
-# What fail-call.c records: three numbers, the kinds of so many calls, and a path.
+# What fail-call.c records: three numbers, the kinds of so many calls, and the paths of two.
 MOST_CALLS = 4_096
 COUNTS, KIND, MOST_PATH = struct.Struct("=3Q"), 8, 4_096
-RECORD_SIZE = COUNTS.size + KIND * MOST_CALLS + MOST_PATH
+PATHS = COUNTS.size + KIND * MOST_CALLS
+RECORD_SIZE = PATHS + 2 * MOST_PATH
 # Which errors calls answer that only look and read, and those that change something.
 READ_ERRORS = (errno.EIO, errno.EACCES)
 ERRORS = (errno.EIO, errno.ENOSPC, errno.EACCES, errno.EDQUOT)
@@ -70,7 +71,15 @@ class Ended:
     @functools.cached_property
     def paths(self):
         """Its paths."""
-        return tuple(self.record[-MOST_PATH:].split(b"\0")[0].decode(errors="replace").split("\n")) if self.record else ()
+        return self.paths_at(PATHS)
+
+    @functools.cached_property
+    def second_paths(self):
+        """Those of the second one, where two were to fail."""
+        return self.paths_at(PATHS + MOST_PATH)
+
+    def paths_at(self, at):
+        return tuple(self.record[at : at + MOST_PATH].split(b"\0")[0].decode(errors="replace").split("\n")) if self.record else ()
 
     def text(self):
         return f"status {self.status}: {self.out[-300:]!r} {self.err[-600:]!r}"
@@ -98,9 +107,12 @@ class Calls:
             self.file.write_bytes(built())
         self.library = runs.Preloaded(self.file, "FAIL_RECORD", RECORD_SIZE, forks)
 
-    def run(self, words, number=0, how="", rest="", output=None, given=None):
-        """Runs the program to its end, where the call of this number fails in this way. What is given is all of its standard input."""
-        settings = {"FAIL_NUMBER": str(number), "FAIL_HOW": str(how), "FAIL_REST": rest, "FAIL_BUT": self.but}
+    def run(self, words, number=0, how="", rest="", output=None, given=None, second=None, mounts=""):
+        """Runs the program to its end, where the call of this number fails in this way, and that of a second number with a second error, if
+        there are such. What is given is all of its standard input, and the table of mounts may be another file."""
+        numbers, hows = (f",{it}" if second else "" for it in second or ("", ""))
+        settings = {"FAIL_NUMBER": f"{number}{numbers}", "FAIL_HOW": f"{how}{hows}", "FAIL_REST": rest, "FAIL_BUT": self.but,
+                    "FAIL_MOUNTS": mounts}
         with ending(words):
             ran = self.library.run([str(it) for it in words], settings, SECONDS, given, output)
         counts, calls, _ = COUNTS.unpack_from(ran.record)

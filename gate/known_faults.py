@@ -2,6 +2,7 @@
 function says what is wrong, and what it gives is whether a failed run meets it."""
 
 from call_classes import class_of
+from failed_runs import is_unfinished
 
 READS = {"look", "open", "read", "list", "readlink"}
 
@@ -27,3 +28,35 @@ OF_READS = [folder_that_cannot_be_looked_at_is_taken_for_a_good_one, store_that_
 def meets_fault(judge):
     """Whether a failure meets a fault of the program, so that its status and its lines aren't held to the pages."""
     return judge.failed.kind in READS and any(fault(judge) for fault in OF_READS)
+
+
+# The calls by which a file that is made gets its owner, its rights and its name.
+GIVING = {"sync", "link", "rename", "look", "open", "chown", "chmod"}
+
+
+def loses_cause(both):
+    """Of a file that can't get its name, and then can't be removed either, the last alone is said; so it is of a report, counters, digests
+    or a description whose file can't be written, and of a fragment that is left out while a file is read into another one. Of several
+    files that a repair can't remove at a stripe one is said."""
+    is_of_made = both.kind in ("unlink", "look") and any(map(is_unfinished, both.paths)) and both.said
+    if not is_of_made:
+        return False
+    of_records = ("SHA256SUMS: ", ".file: ", ".file.copy: ", "can't be written: ")
+    is_of_record = any(words in line for line in both.said for words in of_records)
+    if both.trial.words[0] == "read":
+        return both.first.kind not in ("write", "chown", "chmod")
+    if both.first.kind == "write" and both.trial.words[0] == "encode":
+        # After one of the fragments all of them are removed, one after the other.
+        return both.first.ran.kinds[both.first.number:][:3] != ["unlink"] * 3
+    return is_of_record or both.first.kind in GIVING or both.trial.words[0] == "repair" and both.first.kind == "unlink"
+
+
+def leaves_status(failed):
+    """A leftover that couldn't be removed before an encode is refused is said, and the status is that of the refusal."""
+    return failed.trial.words[0] == "encode" and all(": is left over, and can't be removed: " in line for line in failed.said)
+
+
+def leaves_unsaid(both):
+    """A file that was made and couldn't be locked or looked at, and then not be removed, isn't said where another one is made, or an output
+    is written as it is."""
+    return both.first.kind in ("lock", "look") and any(map(is_unfinished, both.first.paths)) and any(map(is_unfinished, both.paths))
