@@ -161,7 +161,7 @@ class Planting:
         return text
 
     def loop(self, line):
-        """What is planted before and after the line that opens a loop: it has no turn, ends after its first one, or begins with the second."""
+        """What is planted before and after the line that opens a loop: it has no turn, ends after its first, or begins with the second."""
         found, text, before, after = LOOP.fullmatch(line), line.strip(), [], []
         if not found:
             return before, after
