@@ -1,6 +1,6 @@
 #!/usr/bin/env python3
 """Tries rebuild-store where there are several of a kind, each of which has to be treated, said and counted: survivors that change while
-they are read, and what else comes in numbers.
+they are read, folders, copies, leftovers and names.
 
     store-several.py [PROGRAM [TEST]]
 
@@ -15,9 +15,12 @@ import sys
 # No compiled copy of the modules is left beside them.
 sys.dont_write_bytecode = True
 from faults import Calls  # noqa: E402
-from stores import Program, hold, lay, there, try_all, while_waiting, write_sums  # noqa: E402
+from stores import (  # noqa: E402
+    Fault, Program, hold, lay, lay_files, run, source, there, try_all, while_waiting, write_sums,
+)
 
-CODE = ("--code", "6-2-2")
+CODE, DISKS = ("--code", "6-2-2"), ("--names", "disk{shard}/{stripe}", "--code", "6-2-2")
+FOLDERS, ERROR = [f"disk{number}" for number in range(10)], os.strerror(errno.EIO)
 CHANGED = "changed meanwhile: nothing of its stripe is put in its place"
 
 
@@ -70,6 +73,125 @@ def test_each_survivor_that_changes(place, choose):
         hold(status == 1 and named(said, CHANGED) == changed, f"{changed} change beside {damaged}: status {status}: {said}")
         hold(named(said, "differs from the checksums") == [damaged] * bool(damaged), f"{damaged} differs: {said}")
         hold("repaired 0 fragments, 0 bytes (0 unchecked)" in said and there(store) == before, f"{changed} change: {said}")
+
+
+def of_disks(place, choose, *names):
+    """Encodes files into a store with a folder for each disk."""
+    sources = [source(place, name, choose.randbytes(700 + 100 * number)) for number, name in enumerate(names)]
+    run("encode", "--make-folders", *DISKS, place / "kept", *sources, status=0)
+    return place / "store", place / "kept"
+
+
+def from_first(calls, words, store, kept, kind, path):
+    """How a command ends where its first call of a kind at a path fails, and all after it of its kind."""
+    anew(store, kept)
+    for number, other in enumerate(calls.run(words).kinds, 1):
+        if other == kind:
+            anew(store, kept)
+            ended = calls.run(words, number, errno.EIO, "kind")
+            if ended.paths[0] == str(path):
+                return ended
+    raise Fault(f"{words}: no {kind} is of {path}")
+
+
+def test_each_folder_that_cannot_be_listed(place, choose):
+    """Each folder of a disk that can't be listed is named, with what follows, and the status is that of a device."""
+    calls = Calls(place, forks=True)
+    store, kept = of_disks(place, choose, "a", "b")
+    to, other = place / "to", source(place, "c", choose.randbytes(80))
+    for name in FOLDERS:
+        (to / name).mkdir(parents=True)
+    counts, stays = "what should be in it counts as lost", "what runs that were killed have left there stays"
+    alone = ("--workers", "1")
+    for words, folder, why in ((("list", *DISKS, store), store, counts), (("lost", *DISKS, store), store, counts),
+                               (("scrub", *DISKS, store, *alone), store, counts), (("verify", *DISKS[:2], store), store, counts),
+                               (("repair", *DISKS, store, *alone), store, counts), (("repair", *DISKS, store, "--dry-run"), store, counts),
+                               (("repair", *DISKS, store, "--to", to, *alone), to, stays), (("encode", *DISKS, store, other), store, stays)):
+        ended = from_first(calls, [Program.path, *words], store, kept, "list", folder / "disk0")
+        said = [re.escape(f"rebuild-store: {folder}/{name}: {ERROR}: {why}\n") for name in FOLDERS]
+        hold(ended.status == 3 and all(len(re.findall(f"^{it}", ended.err, re.M)) == 1 for it in said), f"{words}: {ended.text()}")
+
+
+def test_each_copy_that_cannot_be_read(place, choose):
+    """Each copy of a description that can't be read is named once, of each file."""
+    calls = Calls(place, forks=True)
+    store, kept = of_disks(place, choose, "a", "b")
+    copies = sorted(f"{folder}/{name}.file" for folder in FOLDERS for name in "ab")
+    for command in (("list",), ("lost",), ("scrub", "--workers", "1"), ("repair", "--workers", "1"), ("repair", "--dry-run")):
+        ended = from_first(calls, [Program.path, *command, *DISKS, store], store, kept, "read", store / "disk0/a.file")
+        said = re.findall(rf"^(?:rebuild-store: )?(\S+\.file): can't be read: {ERROR}$", ended.out + ended.err, re.M)
+        hold(ended.status == 3 and sorted(said) == copies, f"{command}: {ended.text()}")
+
+
+def test_each_leftover(place, choose):
+    """What killed runs left is removed and named, each file, in the store's folder and in each that a link leads to; where it can't be
+    removed, or such a folder can't be listed, each is named too."""
+    calls, store, kept = Calls(place, forks=True), place / "store", place / "kept"
+    files = lay(kept, choose)
+    outside = {name: place / f"outside-{name}" for name in ("x0", "x2", "p1")}
+    left = [folder / f".rebuild-store-{number}123456789abcdef" for folder in (store, *outside.values()) for number in range(3)]
+    for name, folder in outside.items():
+        folder.mkdir()
+        (kept / f"s.{name}").rename(folder / "end")
+        (kept / f"s.{name}").symlink_to(folder / "end")
+    commands = [("repair", store, *CODE, "--workers", "1"), ("encode", store, source(place, "c", choose.randbytes(80))),
+                ("remove", store, "s")]
+
+    def begun():
+        shutil.rmtree(store, ignore_errors=True)
+        shutil.copytree(kept, store, symlinks=True)
+        for name, folder in outside.items():
+            lay_files(folder, {"end": files[f"s.{name}"]})
+        for path in left:
+            path.write_bytes(b"half")
+
+    def is_of_leftover(number):
+        begun()
+        return calls.run(words, number, errno.EIO).paths[0] in map(str, left)
+
+    for command in commands:
+        words = [Program.path, *command, "--follow-links"]
+        begun()
+        ended = calls.run(words)
+        lines = [f"rebuild-store: {path}: was left by a run that was killed, and is removed" for path in left]
+        hold(sorted(it for it in ended.err.splitlines() if "was left" in it) == sorted(lines), f"{command}: {ended.text()}")
+        hold(not any(path.exists() for path in left), f"{command}: {ended.text()}")
+        unlinks, lists = ([number for number, other in enumerate(ended.kinds, 1) if other == kind] for kind in ("unlink", "list"))
+        first = next(number for number in unlinks if is_of_leftover(number))
+        begun()
+        ended = calls.run(words, first, errno.EIO, "kind")
+        said = [line for line in ended.err.splitlines() if line.endswith(f": is left over, and can't be removed: {ERROR}")]
+        hold(ended.status == 3 and sorted(line.split(": ")[1] for line in said) == sorted(map(str, left)), f"{command}: {ended.text()}")
+        for number in lists:
+            begun()
+            ended = calls.run(words, number, errno.EIO, "kind")
+            if ended.paths[0] in map(str, outside.values()):
+                break
+        said = [line for line in ended.err.splitlines() if line.endswith(f": {ERROR}: what runs that were killed have left there stays")]
+        hold(ended.status == 3 and sorted(line.split(": ")[1] for line in said) == sorted(map(str, outside.values())),
+             f"{command}: {ended.text()}")
+
+
+def test_outputs_that_lead_to_each_file(place, choose):
+    """No file is read through a link to another name of one of the stripe's files, whichever, of either code, or of the digests; nor into
+    the folder of any disk."""
+    for code, count in (("6-2-2", 10), ("12-2-2", 16)):
+        where = place / code
+        where.mkdir()
+        store, link, other = where / "store", where / "link", where / "other"
+        run("encode", "--make-folders", *DISKS[:2], "--code", code, store, source(where, "a", choose.randbytes(900)), status=0)
+        files = there(store)
+        hold(len(files) == 2 * count + 1, f"{sorted(files)}")
+        link.symlink_to(other.name)
+        for name in files:
+            os.link(store / name, other)
+            said = run("read", *DISKS[:2], store, "a", "-o", link, status=2)
+            hold(said == f"rebuild-store: {link}: leads to a file of the store\n" and there(store) == files, f"{name}: {said}")
+            other.unlink()
+        for number in range(count):
+            path = store / f"disk{number}/new"
+            said = run("read", *DISKS[:2], store, "a", "-o", path, status=2)
+            hold(said == f"rebuild-store: {path}: is in a folder of the store\n" and there(store) == files, f"{path}: {said}")
 
 
 if __name__ == "__main__":
