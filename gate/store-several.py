@@ -106,7 +106,8 @@ def test_each_folder_that_cannot_be_listed(place, choose):
     for words, folder, why in ((("list", *DISKS, store), store, counts), (("lost", *DISKS, store), store, counts),
                                (("scrub", *DISKS, store, *alone), store, counts), (("verify", *DISKS[:2], store), store, counts),
                                (("repair", *DISKS, store, *alone), store, counts), (("repair", *DISKS, store, "--dry-run"), store, counts),
-                               (("repair", *DISKS, store, "--to", to, *alone), to, stays), (("encode", *DISKS, store, other), store, stays)):
+                               (("repair", *DISKS, store, "--to", to, *alone), to, stays),
+                               (("encode", *DISKS, store, other), store, stays)):
         ended = from_first(calls, [Program.path, *words], store, kept, "list", folder / "disk0")
         said = [re.escape(f"rebuild-store: {folder}/{name}: {ERROR}: {why}\n") for name in FOLDERS]
         hold(ended.status == 3 and all(len(re.findall(f"^{it}", ended.err, re.M)) == 1 for it in said), f"{words}: {ended.text()}")
@@ -192,6 +193,55 @@ def test_outputs_that_lead_to_each_file(place, choose):
             path = store / f"disk{number}/new"
             said = run("read", *DISKS[:2], store, "a", "-o", path, status=2)
             hold(said == f"rebuild-store: {path}: is in a folder of the store\n" and there(store) == files, f"{path}: {said}")
+
+
+def test_removal_of_each_file_that_is_left(place, choose):
+    """A file of which one fragment or description alone is left, whichever, is taken out, and nothing else."""
+    for names in (DISKS, ()):
+        where = place / str(len(names))
+        store, kept = where / "store", where / "kept"
+        where.mkdir()
+        run("encode", "--make-folders", *names, kept, *(source(where, name, choose.randbytes(700)) for name in "ab"), status=0)
+        files = there(kept)
+        own = {name for name in files if name.split("/")[-1].split(".")[0] == "a"}
+        hold(len(own) == (20 if names else 12), sorted(own))
+        for name in sorted(own):
+            shutil.rmtree(store, ignore_errors=True)
+            lay_files(store, {other: data for other, data in files.items() if other == name or other not in own})
+            said = run("remove", *names, store, "a", status=0)
+            left = there(store)
+            sums = left.pop("SHA256SUMS").decode()
+            hold(left == {other: files[other] for other in files if other not in own | {"SHA256SUMS"}}, f"{name}: {sorted(left)}: {said}")
+            hold(sorted(line[66:] for line in sums.splitlines()) == sorted(left), f"{name}: {sums}")
+
+
+def test_removal_beside_each_description_of_another_file(place, choose):
+    """What is named as a fragment of a file, and is a description of another one, on whichever disk, isn't taken out as that file's."""
+    store, kept = of_disks(place, choose, "a")
+    files = there(kept)
+    for kept_at in FOLDERS:
+        shutil.rmtree(store, ignore_errors=True)
+        lay_files(store, {name: data for name, data in files.items() if not name.endswith("/a.file") or name == f"{kept_at}/a.file"})
+        before = there(store)
+        said = run("remove", *DISKS, store, "a.file", status=1)
+        hold("a.file: is no file of the store" in said and there(store) == before, f"{kept_at}: {said}")
+
+
+def test_each_folder_that_is_a_link(place, choose):
+    """A file isn't taken out, replaced or encoded where the folder of a disk, whichever, is a link that isn't followed."""
+    store, kept = of_disks(place, choose, "a")
+    new, replacement = source(place, "c", choose.randbytes(80)), source(place, "a", choose.randbytes(800))
+    for name in FOLDERS:
+        anew(store, kept)
+        (store / name).rename(place / "away")
+        (store / name).symlink_to(place / "away")
+        before = there(store), there(place / "away")
+        for words in (("remove", *DISKS, store, "a"), ("encode", *DISKS, store, new),
+                      ("encode", "--replace", *DISKS, store, replacement)):
+            said = run(*words, status=3)
+            hold(re.search(rf"/{name}(/\S+)?: its folder is a link, and links aren't followed$", said, re.M), f"{words}: {said}")
+            hold((there(store), there(place / "away")) == before, f"{words}: {sorted(there(store))}: {said}")
+        shutil.rmtree(place / "away")
 
 
 if __name__ == "__main__":
