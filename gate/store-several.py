@@ -244,5 +244,94 @@ def test_each_folder_that_is_a_link(place, choose):
         shutil.rmtree(place / "away")
 
 
+def test_each_name_that_is_taken(place, choose):
+    """A file isn't encoded where one of its names, whichever, is that of other bytes, nor replaced where one is that of no regular file;
+    and nothing else is made or changed."""
+    for names, count in ((DISKS, 20), ((), 12)):
+        where = place / str(count)
+        where.mkdir()
+        store, kept = where / "store", where / "kept"
+        old, new = source(where, "a", choose.randbytes(700)), source(where, "other", choose.randbytes(800))
+        run("encode", "--make-folders", *names, kept, old, status=0)
+        own = sorted(there(kept).keys() - {"SHA256SUMS"})
+        hold(len(own) == count, own)
+        for name in own:
+            shutil.rmtree(store, ignore_errors=True)
+            lay_files(store, {name: b"another"})
+            said = run("encode", "--make-folders", *names, store, old, status=1)
+            hold(f"{name}: is " in said and there(store) == {name: b"another"}, f"{name}: {sorted(there(store))}: {said}")
+            anew(store, kept)
+            (store / name).unlink()
+            (store / name).mkdir()
+            before = there(store)
+            said = run("encode", "--replace", "--as", "a", *names, store, new, status=1)
+            hold(f"{name}: is no regular file, and isn't replaced" in said and there(store) == before, f"{name}: {said}")
+
+
+def test_rights_by_each_file(place, choose):
+    """A description that is made again where no copy is left has the rights that all files of its stripe give, and is its user's alone if
+    one of them, whichever, has another owner."""
+    store, kept = place / "store", place / "kept"
+    run("encode", kept, source(place, "a", choose.randbytes(700)), status=0)
+    for name in ("a.file", "a.file.copy"):
+        (kept / name).unlink()
+    for path in kept.glob("a.*"):
+        path.chmod(0o644)
+    for name in sorted(path.name for path in kept.glob("a.*")):
+        for rights, owner, right in ((0o640, 0, 0o640), (0o644, 1, 0o600)):
+            if owner and os.geteuid():
+                continue
+            anew(store, kept)
+            (store / name).chmod(rights)
+            os.chown(store / name, owner or -1, -1)
+            run("repair", *CODE, store, status=0)
+            found = [(store / made).stat().st_mode & 0o777 for made in ("a.file", "a.file.copy")]
+            hold(found == [right, right], f"{name} with {rights:o} of {owner}: {[oct(it) for it in found]}")
+
+
+def test_limit_on_each_stripe(place, choose):
+    """A repair is refused where a fragment of one stripe, whichever, can't be written for its length, and of the others none is made."""
+    store, kept = place / "store", place / "kept"
+    lay(kept, choose, ("a", "b", "c"), length=300)
+    limited = ("bash", "-c", 'ulimit -f 1; exec "$@"', "bash")
+    for long in "abc":
+        anew(store, kept)
+        lay(store, choose, (long,), length=1_500)
+        for name in "abc":
+            (store / f"{name}.x0").unlink()
+        before = there(store)
+        said = run("repair", *CODE, store, status=1, before=limited)
+        hold(said == f"rebuild-store: {long}: would have 1500 bytes, and no file may get more than 1024 here: ulimit -f\n", said)
+        hold(there(store) == before, f"{long}: {sorted(there(store))}")
+
+
+def test_links_to_each_file_of_the_run(place, choose):
+    """Where links are followed, nothing is made or replaced through one that leads to the list of stripes or to the digests of the run; and
+    the report and the counters, also both, aren't written where one leads."""
+    store, end, other = place / "store", place / "end", place / "other"
+    files = lay(store, choose, length=40)
+    (store / "s.x0").unlink()
+    (store / "s.x0").symlink_to(end)
+    del files["s.x0"]
+    command = ("repair", "--follow-links", "--replace-damaged", *CODE, store)
+    for words, text in ((("--stripes", end), "s\n"), (("--sums", end), ""), (("--sums", end, "--stripes", other), ""),
+                        (("--stripes", end, "--report", place / "report", "--progress", place / "counters"), "s\n")):
+        end.write_text(text)
+        other.write_text("s\n")
+        said = run(*command, *words, status=3)
+        hold("s.x0: can't be put in its place: another name leads there too\n" in said, f"{words}: {said}")
+        hold((store / "s.x0").is_symlink() and end.read_text() == text, f"{words}: {said}")
+    for words in (("--report", end), ("--progress", end), ("--report", end, "--progress", other), ("--report", other, "--progress", end)):
+        end.write_text("")
+        said = run(*command, *words, status=2)
+        hold(f"{end}: is a file of the store, and no place for a report\n" in said and end.read_text() == "", f"{words}: {said}")
+        # Where nothing is yet, the file of the run has the place first.
+        end.unlink()
+        said = run(*command, *words, status=3)
+        hold("s.x0: can't be put in its place: another name leads there too\n" in said, f"{words}: {said}")
+        hold({name: data for name, data in there(store).items() if name != "s.x0"} == files, f"{words}: {said}")
+        end.unlink(missing_ok=True)
+
+
 if __name__ == "__main__":
     try_all("store-several", globals(), *sys.argv[1:3])
