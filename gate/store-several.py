@@ -333,5 +333,70 @@ def test_links_to_each_file_of_the_run(place, choose):
         end.unlink(missing_ok=True)
 
 
+def test_removal_of_each_that_was_begun(place, choose):
+    """Of several files that are to be taken out, each of which there is anything is, also if that is what was to replace it, and nothing
+    else is in the store."""
+    store = place / "store"
+    for name in "abc":
+        lay_files(store, {f"{name}.rebuild-store-new.x1": choose.randbytes(9)})
+        said = run("remove", store, *"abc", status=1)
+        others = [f"rebuild-store: {other}: is no file of the store {store}" for other in "abc" if other != name]
+        hold(said.splitlines() == [*others, "removed 1 file; not removed: 2"] and there(store) == {}, f"{name}: {said}")
+
+
+def test_each_link_in_a_circle(place, choose):
+    """Each fragment that is a link in a circle is named, and stays, and the others are made."""
+    store = place / "store"
+    files = lay(store, choose)
+    (store / "s.y2").unlink()
+    for names in (("s.x0",), ("s.x0", "s.p1"), ("s.x1", "s.y0", "s.p0")):
+        for name in names:
+            (store / name).unlink()
+            (store / name).symlink_to(name)
+        said = run("repair", "--follow-links", *CODE, store, status=3)
+        hold(named(said, f"can't be looked at: {os.strerror(errno.ELOOP)}") == sorted(names), said)
+        hold(all((store / name).is_symlink() for name in names), said)
+        hold(len(names) > 2 or (store / "s.y2").read_bytes() == files["s.y2"], f"{names}: {said}")
+        for name in names:
+            (store / name).unlink()
+            (store / name).write_bytes(files[name])
+        (store / "s.y2").unlink(missing_ok=True)
+
+
+def test_each_link_in_a_circle_elsewhere(place, choose):
+    """Of fragments that are made in another folder each that would come to a link in a circle there is named, and the others are made."""
+    store, to = place / "store", place / "to"
+    files = lay(store, choose)
+    for name in ("s.x0", "s.y1", "s.p1"):
+        (store / name).unlink()
+    for names in (("s.x0",), ("s.x0", "s.p1"), ("s.x0", "s.y1", "s.p1")):
+        shutil.rmtree(to, ignore_errors=True)
+        to.mkdir()
+        for name in names:
+            (to / name).symlink_to(name)
+        said = run("repair", "--follow-links", *CODE, store, "--to", to, status=3)
+        hold(named(said, "can't be put in its place: invalid input parameter") == sorted(names), said)
+        hold(there(to) == {name: files[name] for name in ("s.x0", "s.y1", "s.p1") if name not in names}, f"{names}: {said}")
+
+
+def test_stripe_that_fits_beside_others(place, choose):
+    """A store isn't another one if one of its stripes fits the code, whichever."""
+    store, kept = place / "store", place / "kept"
+    files = lay(kept, choose, ("a", "b", "c"))
+    for fits in "abc":
+        anew(store, kept)
+        for other in "abc":
+            if other != fits:
+                lay_files(store, {name: choose.randbytes(600) for name in files if name.startswith(f"{other}.")})
+        (store / f"{fits}.x0").unlink()
+        said = run("repair", store, status=0)
+        hold((store / f"{fits}.x0").read_bytes() == files[f"{fits}.x0"], f"{fits}: {said}")
+    for name in files:
+        (store / name).write_bytes(choose.randbytes(600))
+    (store / "b.x0").unlink()
+    said = run("repair", store, status=1)
+    hold("no stripe fits the code 6-2-2" in said, said)
+
+
 if __name__ == "__main__":
     try_all("store-several", globals(), *sys.argv[1:3])
