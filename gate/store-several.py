@@ -6,17 +6,20 @@ they are read, folders, copies, leftovers and names.
 
 Each expected byte, name and status is worked out here by the manual pages."""
 
+import contextlib
 import errno
 import os
+import pty
 import re
 import shutil
+import subprocess
 import sys
 
 # No compiled copy of the modules is left beside them.
 sys.dont_write_bytecode = True
-from faults import Calls  # noqa: E402
+from faults import RECORD_SIZE, Calls  # noqa: E402
 from stores import (  # noqa: E402
-    Fault, Program, hold, lay, lay_files, run, source, there, try_all, while_waiting, write_sums,
+    Fault, Program, Skipped, hold, lay, lay_files, run, source, there, try_all, while_waiting, write_sums,
 )
 
 CODE, DISKS = ("--code", "6-2-2"), ("--names", "disk{shard}/{stripe}", "--code", "6-2-2")
@@ -27,6 +30,17 @@ CHANGED = "changed meanwhile: nothing of its stripe is put in its place"
 def named(said, why):
     """The names of files of which lines say this."""
     return sorted(re.findall(rf"^(\S+): {why}", said, re.M))
+
+
+def shown(ours, theirs):
+    """What was written to a terminal, to which nobody writes any more."""
+    os.close(theirs)
+    said = b""
+    with contextlib.suppress(OSError):
+        while more := os.read(ours, 65_536):
+            said += more
+    os.close(ours)
+    return said.decode()
 
 
 def anew(store, kept):
@@ -364,19 +378,22 @@ def test_each_link_in_a_circle(place, choose):
 
 
 def test_each_link_in_a_circle_elsewhere(place, choose):
-    """Of fragments that are made in another folder each that would come to a link in a circle there is named, and the others are made."""
+    """Of fragments that are made in another folder each that would come to a link in a circle there, or in a folder that is one, is named,
+    and the others are made."""
     store, to = place / "store", place / "to"
     files = lay(store, choose)
     for name in ("s.x0", "s.y1", "s.p1"):
         (store / name).unlink()
     for names in (("s.x0",), ("s.x0", "s.p1"), ("s.x0", "s.y1", "s.p1")):
-        shutil.rmtree(to, ignore_errors=True)
-        to.mkdir()
-        for name in names:
-            (to / name).symlink_to(name)
-        said = run("repair", "--follow-links", *CODE, store, "--to", to, status=3)
-        hold(named(said, "can't be put in its place: invalid input parameter") == sorted(names), said)
-        hold(there(to) == {name: files[name] for name in ("s.x0", "s.y1", "s.p1") if name not in names}, f"{names}: {said}")
+        for folder, why in (("", "invalid input parameter"), ("loop/", os.strerror(errno.ELOOP))):
+            shutil.rmtree(to, ignore_errors=True)
+            to.mkdir()
+            (to / "loop").symlink_to("loop")
+            for name in names:
+                (to / name).symlink_to(folder + name)
+            said = run("repair", "--follow-links", *CODE, store, "--to", to, status=3)
+            hold(named(said, f"can't be put in its place: {why}") == sorted(names), said)
+            hold(there(to) == {name: files[name] for name in ("s.x0", "s.y1", "s.p1") if name not in names}, f"{names}: {said}")
 
 
 def test_stripe_that_fits_beside_others(place, choose):
@@ -396,6 +413,37 @@ def test_stripe_that_fits_beside_others(place, choose):
     (store / "b.x0").unlink()
     said = run("repair", store, status=1)
     hold("no stripe fits the code 6-2-2" in said, said)
+
+
+def test_each_file_of_unread_descriptions_alone(place, choose):
+    """Each file of which descriptions alone are left is there, lost, also where none of these can be read."""
+    calls, store, kept = Calls(place, forks=True), place / "store", place / "kept"
+    run("encode", kept, *(source(place, name, choose.randbytes(700)) for name in "abc"), status=0)
+    for path in [*kept.glob("?.??"), kept / "SHA256SUMS"]:
+        path.unlink()
+    ended = from_first(calls, [Program.path, "list", *CODE, store], store, kept, "read", store / "a.file")
+    lines = [f"lost - 6-2-2 0/10 {name}" for name in "abc"]
+    hold(ended.status == 3 and sorted(ended.out.splitlines()) == lines, ended.text())
+    said = re.findall(rf"^rebuild-store: (\S+): can't be read: {ERROR}$", ended.err, re.M)
+    hold(sorted(said) == sorted(f"{name}.{copy}" for name in "abc" for copy in ("file", "file.copy")), ended.text())
+
+
+def test_bytes_of_each_file(place, choose):
+    """The line that shows how far a command is has the bytes of all files that are given."""
+    store, record = place / "store", place / "record"
+    record.write_bytes(bytes(RECORD_SIZE))
+    # As from a slow disk, so that there is a line.
+    slow = {"LD_PRELOAD": str(Calls(place).file), "FAIL_RECORD": str(record), "FAIL_NUMBER": "20", "FAIL_HOW": "slow"}
+    sources = [source(place, name, bytes(2**20 * size)) for name, size in (("a", 1), ("b", 2), ("c", 4))]
+    for words in (("encode", store, *sources), ("verify", store), ("verify", store, "a", "b", "c"), ("verify", store, "c", "a", "b")):
+        store.mkdir(exist_ok=True)
+        try:
+            ours, theirs = pty.openpty()
+        except OSError as error:
+            raise Skipped(f"no terminal can be made here: {error}") from None
+        status = subprocess.run([Program.path, *words], stdout=subprocess.DEVNULL, stderr=theirs, env={**os.environ, **slow}).returncode
+        said = shown(ours, theirs)
+        hold(status == 0 and set(re.findall(r"\d/3 files  [\d.]+/(\S+ \S+)", said)) == {"7.0 MiB"}, f"{words}: {said!r}")
 
 
 if __name__ == "__main__":
