@@ -19,7 +19,7 @@ import sys
 sys.dont_write_bytecode = True
 from faults import RECORD_SIZE, Calls  # noqa: E402
 from stores import (  # noqa: E402
-    Fault, Program, Skipped, hold, lay, lay_files, run, source, there, try_all, while_waiting, write_sums,
+    STAGED, Fault, Program, Skipped, hold, lay, lay_files, run, source, there, try_all, while_waiting, write_sums,
 )
 
 CODE, DISKS = ("--code", "6-2-2"), ("--names", "disk{shard}/{stripe}", "--code", "6-2-2")
@@ -433,8 +433,8 @@ def test_bytes_of_each_file(place, choose):
     store, record = place / "store", place / "record"
     record.write_bytes(bytes(RECORD_SIZE))
     # As from a slow disk, so that there is a line.
-    slow = {"LD_PRELOAD": str(Calls(place).file), "FAIL_RECORD": str(record), "FAIL_NUMBER": "20", "FAIL_HOW": "slow"}
-    sources = [source(place, name, bytes(2**20 * size)) for name, size in (("a", 1), ("b", 2), ("c", 4))]
+    slow = {"LD_PRELOAD": str(Calls(place).file), "FAIL_RECORD": str(record), "FAIL_NUMBER": "10", "FAIL_HOW": "slow"}
+    sources = [source(place, name, bytes(2**17 * size)) for name, size in (("a", 1), ("b", 2), ("c", 5))]
     for words in (("encode", store, *sources), ("verify", store), ("verify", store, "a", "b", "c"), ("verify", store, "c", "a", "b")):
         store.mkdir(exist_ok=True)
         try:
@@ -443,7 +443,44 @@ def test_bytes_of_each_file(place, choose):
             raise Skipped(f"no terminal can be made here: {error}") from None
         status = subprocess.run([Program.path, *words], stdout=subprocess.DEVNULL, stderr=theirs, env={**os.environ, **slow}).returncode
         said = shown(ours, theirs)
-        hold(status == 0 and set(re.findall(r"\d/3 files  [\d.]+/(\S+ \S+)", said)) == {"7.0 MiB"}, f"{words}: {said!r}")
+        hold(status == 0 and set(re.findall(r"\d/3 files  [\d.]+/(\S+ \S+)", said)) == {"1.0 MiB"}, f"{words}: {said!r}")
+
+
+def test_parts_by_each_digest(place, choose):
+    """What describes a file isn't taken for a fragment of another one in any part of the store, if digests name a fragment of the file,
+    whichever."""
+    store = place / "store"
+    run("encode", "--make-folders", *DISKS, store, source(place, "a", choose.randbytes(700)), status=0)
+    lines = (store / "SHA256SUMS").read_text().splitlines(True)
+    for folder in FOLDERS:
+        (store / "SHA256SUMS").write_text("".join(line for line in lines if line.endswith((".file\n", f" {folder}/a\n"))))
+        for count in (2, 3):
+            said = [run("scrub", *DISKS, store, "--part", f"{part}/{count}", status=0) for part in range(1, count + 1)]
+            found = sorted(line.split(":")[0] for text in said for line in text.splitlines())
+            hold(found == ["scrubbed 0 stripes"] * (count - 1) + ["scrubbed 1 stripe"], f"{folder}: {said}")
+
+
+def test_each_name_of_what_was_begun(place, choose):
+    """A file isn't read where nobody knows what replaces it, and a fragment of that, whichever, has a name of the file already."""
+    for code, count in (("6-2-2", 10), ("12-2-2", 16)):
+        where = place / code
+        store = where / "store"
+        where.mkdir()
+        run("encode", "--make-folders", "--code", code, store, source(where, "a", choose.randbytes(1_700)), status=0)
+        fragments = [path for path in store.glob("a.??")]
+        hold(len(fragments) == count, fragments)
+        for copy in ("file", "file.copy"):
+            (store / f"a{STAGED}.{copy}").write_bytes(b"odd\n")
+        for path in fragments:
+            other = store / path.name.replace("a.", f"a{STAGED}.")
+            os.link(path, other)
+            said = run("read", store, "a", "-o", where / "read", status=1)
+            hold("isn't a line with a length, a digest and a code" in said and not (where / "read").exists(), f"{path.name}: {said}")
+            other.unlink()
+            shutil.copy(path, other)
+            run("read", store, "a", "-o", where / "read", status=0)
+            (where / "read").unlink()
+            other.unlink()
 
 
 if __name__ == "__main__":
