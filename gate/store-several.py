@@ -345,6 +345,10 @@ def test_links_to_each_file_of_the_run(place, choose):
         hold("s.x0: can't be put in its place: another name leads there too\n" in said, f"{words}: {said}")
         hold({name: data for name, data in there(store).items() if name != "s.x0"} == files, f"{words}: {said}")
         end.unlink(missing_ok=True)
+    (store / "s.x0").unlink()
+    for words in (("--report", store / "s.x0", "--progress", other), ("--report", other, "--progress", store / "s.x0")):
+        said = run(*command, *words, status=2)
+        hold("s.x0: is a file of the store, and no place for a report\n" in said and there(store) == files, f"{words}: {said}")
 
 
 def test_removal_of_each_that_was_begun(place, choose):
