@@ -136,6 +136,9 @@ def test_each_copy_that_cannot_be_read(place, choose):
         ended = from_first(calls, [Program.path, *command, *DISKS, store], store, kept, "read", store / "disk0/a.file")
         said = re.findall(rf"^(?:rebuild-store: )?(\S+\.file): can't be read: {ERROR}$", ended.out + ended.err, re.M)
         hold(ended.status == 3 and sorted(said) == copies, f"{command}: {ended.text()}")
+        counted = re.search(r"0 damaged, (\d+) lost|not possible: (\d+)", ended.out)
+        every = len(re.findall(rf": can't be read: {ERROR}$", ended.out + ended.err, re.M))
+        hold(not counted or int(counted[1] or counted[2]) == every, f"{command}: {every} are said: {ended.text()}")
 
 
 def test_each_leftover(place, choose):
@@ -425,11 +428,13 @@ def test_each_file_of_unread_descriptions_alone(place, choose):
     run("encode", kept, *(source(place, name, choose.randbytes(700)) for name in "abc"), status=0)
     for path in [*kept.glob("?.??"), kept / "SHA256SUMS"]:
         path.unlink()
-    ended = from_first(calls, [Program.path, "list", *CODE, store], store, kept, "read", store / "a.file")
-    lines = [f"lost - 6-2-2 0/10 {name}" for name in "abc"]
-    hold(ended.status == 3 and sorted(ended.out.splitlines()) == lines, ended.text())
-    said = re.findall(rf"^rebuild-store: (\S+): can't be read: {ERROR}$", ended.err, re.M)
-    hold(sorted(said) == sorted(f"{name}.{copy}" for name in "abc" for copy in ("file", "file.copy")), ended.text())
+    for copies in (("file", "file.copy"), ("file",)):
+        ended = from_first(calls, [Program.path, "list", *CODE, store], store, kept, "read", store / "a.file")
+        hold(ended.status == 3 and sorted(ended.out.splitlines()) == [f"lost - 6-2-2 0/10 {name}" for name in "abc"], ended.text())
+        said = re.findall(rf"^rebuild-store: (\S+): can't be read: {ERROR}$", ended.err, re.M)
+        hold(sorted(said) == sorted(f"{name}.{copy}" for name in "abc" for copy in copies), ended.text())
+        for name in "abc":
+            (kept / f"{name}.file.copy").unlink(missing_ok=True)
 
 
 def test_bytes_of_each_file(place, choose):

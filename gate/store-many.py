@@ -1,0 +1,138 @@
+#!/usr/bin/env python3
+"""Tries rebuild-store where two things of one kind meet, in each order and at each place: damaged fragments, runs of other parts, fragments
+that can't be read.
+
+    store-many.py [PROGRAM [TEST]]
+
+Each expected byte, name and status is worked out here by the manual pages."""
+
+import errno
+import itertools
+import os
+import re
+import shutil
+import sys
+
+# No compiled copy of the modules is left beside them.
+sys.dont_write_bytecode = True
+from faults import Calls  # noqa: E402
+from stores import Program, hold, lay, run, source, there, try_all, while_waiting, write_sums  # noqa: E402
+
+PLACES = ("x0", "x1", "x2", "y0", "y1", "y2", "px", "py", "p0", "p1")
+CODE = ("--code", "6-2-2")
+
+
+def damage(path):
+    path.write_bytes(bytes(255 - byte for byte in path.read_bytes()))
+
+
+def counts_of(file):
+    """The counters of a run, by their names."""
+    return {name: int(value) for name, value in re.findall(r"^rebuild_store_(\w+)\{.*\} (\d+)$", file.read_text(), re.M)}
+
+
+def anew(store, kept):
+    shutil.rmtree(store, ignore_errors=True)
+    shutil.copytree(kept, store)
+
+
+def encoded(place, choose):
+    """Encodes a file into a store that is kept, and gives its bytes, the place of the store, and the store that is kept."""
+    data = choose.randbytes(700)
+    run("encode", place / "kept", source(place, "a", data), status=0)
+    return data, place / "store", place / "kept"
+
+
+def test_each_two_damaged(place, choose):
+    """Without digests a file is read without the two parts of it that are damaged, whichever, which are named."""
+    data, store, kept = encoded(place, choose)
+    (kept / "SHA256SUMS").unlink()
+    for names in itertools.combinations(PLACES[:6], 2):
+        anew(store, kept)
+        for name in names:
+            damage(store / f"a.{name}")
+        said = run("read", store, "a", "-o", place / "read", status=0)
+        hold(said == f"rebuild-store: a: fragments are damaged: read without {names[0]} and {names[1]}\n", f"{names}: {said}")
+        hold((place / "read").read_bytes() == data, f"{names}: other bytes")
+
+
+def test_descriptions_beside_each_two_damaged(place, choose):
+    """Where two fragments are damaged, whichever, and all descriptions lost, these are made again of the other fragments."""
+    _, store, kept = encoded(place, choose)
+    copies = {name: data for name, data in there(kept).items() if name.startswith("a.file")}
+    hold(len(copies) == 2, sorted(copies))
+    for name in copies:
+        (kept / name).unlink()
+    for names in itertools.combinations(PLACES[:7], 2):
+        anew(store, kept)
+        for name in names:
+            damage(store / f"a.{name}")
+        said = run("repair", "--replace-damaged", store, status=0)
+        hold(there(store).items() >= copies.items(), f"{names}: {said}")
+
+
+def test_each_fragment_that_cannot_be_read(place, choose):
+    """Where too few fragments are there without one that can't be read, whichever, the system's words and that one's path are said."""
+    calls = Calls(place, forks=True)
+    _, store, kept = encoded(place, choose)
+    for name in PLACES:
+        anew(store, kept)
+        for other in [it for it in PLACES if it != name][4:]:
+            (store / f"a.{other}").unlink()
+        words = [Program.path, "read", store, "a", "-o", place / "read"]
+        path, kinds = str(store / f"a.{name}"), calls.run(words).kinds
+        for number, kind in enumerate(kinds, 1):
+            ended = calls.run(words, number, errno.EIO, "path") if kind == "open" else None
+            if ended and ended.paths[0] == path:
+                break
+        hold(ended and ended.paths[0] == path, f"{path} isn't opened")
+        hold(ended.status == 3 and f"{path}: {os.strerror(errno.EIO)}\n" in ended.err, f"{name}: {ended.text()}")
+
+
+def test_runs_of_other_parts(place, choose):
+    """A run of a part is refused while one works on a part of another number of parts, whichever of their locks was there first."""
+    calls, store = Calls(place, forks=True), place / "store"
+    lay(store, choose, ("a", "b"))
+    own = store / ".rebuild-store-part-2-of-3"
+    for count in (1, 2, 5):
+        words = [Program.path, "repair", store, *CODE, "--workers", "1", "--part", f"1/{count}"]
+        kinds = calls.run(words).kinds
+        for is_there in (False, True):
+            if is_there:
+                own.touch()
+            said = []
+            status, text = while_waiting(calls, place, words, kinds.index("list") + 1,
+                                         lambda: said.append(run("repair", store, *CODE, "--part", "2/3", status=1)))
+            hold(status == 0, text)
+            line = f"rebuild-store: {store}/.rebuild-store-part-1-of-{count}: another run works in this store\n"
+            hold(said == [line], f"{count}: {said}")
+            own.unlink(missing_ok=True)
+
+
+def test_names_and_counts(place, choose):
+    """The last line and the counters have each damaged fragment, and each that was rebuilt unchecked, of each stripe."""
+    store, counters = place / "store", place / "counters"
+    lay(store, choose, "abcd")
+    damaged = ["a.x0", "a.y1", "c.x2", "c.p1", "d.y0"]
+    lost = ["b.x0", "b.x1", "b.y0", "b.p1"]
+    write_sums(store)
+    lines = (store / "SHA256SUMS").read_text().splitlines(True)
+    (store / "SHA256SUMS").write_text("".join(line for line in lines if line[66:67] != "b"))
+    for name in damaged:
+        damage(store / name)
+    for name in lost:
+        (store / name).unlink()
+    said = run("scrub", store, "--progress", counters, status=1)
+    hold(f"scrubbed 4 stripes: {len(damaged)} damaged, {len(lost)} lost or contradictory" in said, said)
+    found = counts_of(counters)
+    hold((found["damaged"], found["left"]) == (len(damaged), len(lost)), f"{found}: {said}")
+    said = run("repair", "--reads", "all", store, "--progress", counters, status=1)
+    # Three are named.
+    last = f"repaired 4 fragments, 2.3 KiB (4 unchecked: {' '.join(lost[:3])} ..); damaged: 5: {' '.join(damaged[:3])} ..; "
+    hold(f"{last}left without --replace-damaged: 5; not possible: 0\n" in said, said)
+    found = counts_of(counters)
+    hold((found["units_done"], found["damaged"], found["left"]) == (4, 5, 0), f"{found}: {said}")
+
+
+if __name__ == "__main__":
+    try_all("store-many", globals(), *sys.argv[1:3])
