@@ -16,10 +16,12 @@ import sys
 # No compiled copy of the modules is left beside them.
 sys.dont_write_bytecode = True
 from faults import Calls  # noqa: E402
-from stores import Program, hold, lay, run, source, there, try_all, while_waiting, write_sums  # noqa: E402
+from stores import (  # noqa: E402
+    STAGED, Program, begin, hold, lay, run, source, there, try_all, while_waiting, write_sums,
+)
 
 PLACES = ("x0", "x1", "x2", "y0", "y1", "y2", "px", "py", "p0", "p1")
-CODE = ("--code", "6-2-2")
+CODE, DISKS = ("--code", "6-2-2"), ("--names", "disk{shard}/{stripe}", "--code", "6-2-2")
 
 
 def damage(path):
@@ -126,12 +128,61 @@ def test_names_and_counts(place, choose):
     hold(f"scrubbed 4 stripes: {len(damaged)} damaged, {len(lost)} lost or contradictory" in said, said)
     found = counts_of(counters)
     hold((found["damaged"], found["left"]) == (len(damaged), len(lost)), f"{found}: {said}")
+    hold((found["units"], found["units_done"], found["bytes"], found["bytes_done"]) == (4, 4, 36 * 600, 36 * 600), f"{found}: {said}")
     said = run("repair", "--reads", "all", store, "--progress", counters, status=1)
     # Three are named.
     last = f"repaired 4 fragments, 2.3 KiB (4 unchecked: {' '.join(lost[:3])} ..); damaged: 5: {' '.join(damaged[:3])} ..; "
     hold(f"{last}left without --replace-damaged: 5; not possible: 0\n" in said, said)
     found = counts_of(counters)
-    hold((found["units_done"], found["damaged"], found["left"]) == (4, 5, 0), f"{found}: {said}")
+    hold((found["units"], found["units_done"], found["damaged"], found["left"]) == (4, 4, 5, 0), f"{found}: {said}")
+
+
+def test_copy_that_cannot_be_read_beside_a_lost_one(place, choose):
+    """The status is that of a device if one copy of a description can't be read, and another one is lost, whichever comes first."""
+    calls, store, kept = Calls(place, forks=True), place / "store", place / "kept"
+    run("encode", "--make-folders", *DISKS, kept, source(place, "a", choose.randbytes(700)), status=0)
+    for lost, unread in ((0, 5), (5, 0), (8, 9)):
+        for command in (("scrub", "--workers", "1"), ("lost",)):
+            anew(store, kept)
+            (store / f"disk{lost}/a.file").unlink()
+            words, path = [Program.path, *command, *DISKS, store], str(store / f"disk{unread}/a.file")
+            for number in [number for number, kind in enumerate(calls.run(words).kinds, 1) if kind == "read"]:
+                ended = calls.run(words, number, errno.EIO, "path")
+                if ended.paths[0] == path and f"disk{unread}/a.file: can't be read" in ended.out + ended.err:
+                    break
+            said = ended.out + ended.err
+            hold(f"disk{unread}/a.file: can't be read: {os.strerror(errno.EIO)}\n" in said, f"{command}: {ended.text()}")
+            hold(ended.status == 3 and f"disk{lost}/a.file: is lost\n" in said, f"{command}: {ended.text()}")
+
+
+def test_just_enough_of_what_replaces_a_file(place, choose):
+    """What is to replace a file is read where just so many of its fragments are there as give it, whichever are lost, and the file itself
+    where one fewer is."""
+    data, store, kept = encoded(place, choose)
+    new = choose.randbytes(900)
+    begin(place, kept, new)
+    for lost in (PLACES[6:], PLACES[0:2] + PLACES[3:5], PLACES[5:9], PLACES[1:4] + PLACES[9:]):
+        anew(store, kept)
+        for name in lost:
+            (store / f"a{STAGED}.{name}").unlink()
+        run("read", store, "a", "-o", place / "read", status=0)
+        hold((place / "read").read_bytes() == new, f"without {lost} another file is read")
+        (store / f"a{STAGED}.{next(name for name in PLACES if name not in lost)}").unlink()
+        run("read", store, "a", "-o", place / "read", status=0)
+        hold((place / "read").read_bytes() == data, f"without more than {lost} another file is read")
+
+
+def test_outputs_in_each_folder_of_stripes(place, choose):
+    """Where each stripe has a folder of its own, no file is read to the store's folder, to that of a stripe or to one below."""
+    names, store = ("--names", "of/{stripe}/{place}"), place / "store"
+    run("encode", "--make-folders", *names, store, source(place, "a", choose.randbytes(700)), status=0)
+    (store / "of/a/deeper/still").mkdir(parents=True)
+    (store / "of/b").mkdir()
+    before = there(store)
+    for folder in ("", "of", "of/a", "of/b", "of/a/deeper", "of/a/deeper/still"):
+        path = store / folder / "new"
+        said = run("read", *names, store, "a", "-o", path, status=2)
+        hold(said == f"rebuild-store: {path}: is in a folder of the store\n" and there(store) == before, f"{path}: {said}")
 
 
 if __name__ == "__main__":
