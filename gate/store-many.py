@@ -114,27 +114,61 @@ def test_runs_of_other_parts(place, choose):
 def test_names_and_counts(place, choose):
     """The last line and the counters have each damaged fragment, and each that was rebuilt unchecked, of each stripe."""
     store, counters = place / "store", place / "counters"
-    lay(store, choose, "abcd")
-    damaged = ["a.x0", "a.y1", "c.x2", "c.p1", "d.y0"]
-    lost = ["b.x0", "b.x1", "b.y0", "b.p1"]
+    lay(store, choose, "abcde")
+    damaged = ["c.x0", "c.y1", "d.x2", "d.p1", "e.y0"]
+    unchecked = ["b.x0", "b.x1", "b.y0", "b.p1"]
     write_sums(store)
     lines = (store / "SHA256SUMS").read_text().splitlines(True)
-    (store / "SHA256SUMS").write_text("".join(line for line in lines if line[66:67] != "b"))
+    (store / "SHA256SUMS").write_text("".join(line for line in lines if line[66:67] not in "ab"))
     for name in damaged:
         damage(store / name)
-    for name in lost:
+    for name in [*unchecked, "a.p0"]:
         (store / name).unlink()
     said = run("scrub", store, "--progress", counters, status=1)
-    hold(f"scrubbed 4 stripes: {len(damaged)} damaged, {len(lost)} lost or contradictory" in said, said)
+    hold("scrubbed 5 stripes: 5 damaged, 5 lost or contradictory" in said, said)
     found = counts_of(counters)
-    hold((found["damaged"], found["left"]) == (len(damaged), len(lost)), f"{found}: {said}")
-    hold((found["units"], found["units_done"], found["bytes"], found["bytes_done"]) == (4, 4, 36 * 600, 36 * 600), f"{found}: {said}")
+    hold((found["damaged"], found["left"]) == (5, 5), f"{found}: {said}")
+    hold((found["units"], found["units_done"], found["bytes"], found["bytes_done"]) == (5, 5, 45 * 600, 45 * 600), f"{found}: {said}")
     said = run("repair", "--reads", "all", store, "--progress", counters, status=1)
     # Three are named.
-    last = f"repaired 4 fragments, 2.3 KiB (4 unchecked: {' '.join(lost[:3])} ..); damaged: 5: {' '.join(damaged[:3])} ..; "
+    last = f"repaired 5 fragments, 2.9 KiB (4 unchecked: {' '.join(unchecked[:3])} ..); damaged: 5: {' '.join(damaged[:3])} ..; "
     hold(f"{last}left without --replace-damaged: 5; not possible: 0\n" in said, said)
     found = counts_of(counters)
-    hold((found["units"], found["units_done"], found["damaged"], found["left"]) == (4, 4, 5, 0), f"{found}: {said}")
+    hold((found["units"], found["units_done"], found["damaged"], found["left"]) == (5, 5, 5, 0), f"{found}: {said}")
+
+
+def test_each_description_that_digests_name(place, choose):
+    """Each file is missed of which the digests name a description alone, and of which nothing is there."""
+    store = place / "store"
+    run("encode", store, *(source(place, name, choose.randbytes(700)) for name in "abcd"), status=0)
+    for path in store.glob("[abc].*"):
+        path.unlink()
+    lines = (store / "SHA256SUMS").read_text().splitlines(True)
+    (store / "SHA256SUMS").write_text("".join(line for line in lines if line[66] == "d" or line.endswith(".file\n")))
+    said = run("scrub", store, status=1)
+    hold([name for name in "abcd" if f"{name}.file: is lost\n" in said] == ["a", "b", "c"], said)
+    hold("scrubbed 4 stripes: " in said, said)
+
+
+def test_what_is_beside_the_folders_of_disks(place, choose):
+    """Of what is beside the folders of disks each file that a killed run left goes, and each description is one of a file."""
+    store, kept = place / "store", place / "kept"
+    run("encode", "--make-folders", *DISKS, kept, *(source(place, name, choose.randbytes(700)) for name in "abcd"), status=0)
+    for name in "abc":
+        shutil.move(kept / f"disk0/{name}.file", kept / f"{name}.file")
+        for path in [*kept.glob(f"disk*/{name}"), *kept.glob(f"disk*/{name}.file")]:
+            path.unlink()
+    (kept / "SHA256SUMS").unlink()
+    left = [f".rebuild-store-{number}123456789abcdef" for number in range(4)]
+    for name in left:
+        (kept / name).write_bytes(b"half")
+    anew(store, kept)
+    said = run("list", *DISKS, store, status=0)
+    states = {line.split()[4]: line.split()[0] for line in said.splitlines()[:4]}
+    hold(states == {"a": "lost", "b": "lost", "c": "lost", "d": "whole"}, said)
+    said = run("encode", *DISKS, store, source(place, "e", b"e"), status=0)
+    hold(all(f"rebuild-store: {store}/{name}: was left by a run that was killed, and is removed\n" in said for name in left), said)
+    hold(not [*store.glob(".rebuild-store-*")], sorted(there(store)))
 
 
 def test_copy_that_cannot_be_read_beside_a_lost_one(place, choose):
