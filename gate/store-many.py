@@ -160,9 +160,9 @@ def test_what_is_beside_the_folders_of_disks(place, choose):
             path.unlink()
     (kept / "SHA256SUMS").unlink()
     left = [f".rebuild-store-{number}123456789abcdef" for number in range(4)]
-    for name in left:
-        (kept / name).write_bytes(b"half")
     anew(store, kept)
+    for name in left:
+        (store / name).write_bytes(b"half")
     said = run("list", *DISKS, store, status=0)
     states = {line.split()[4]: line.split()[0] for line in said.splitlines()[:4]}
     hold(states == {"a": "lost", "b": "lost", "c": "lost", "d": "whole"}, said)
