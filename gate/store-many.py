@@ -219,5 +219,28 @@ def test_outputs_in_each_folder_of_stripes(place, choose):
         hold(said == f"rebuild-store: {path}: is in a folder of the store\n" and there(store) == before, f"{path}: {said}")
 
 
+def test_each_fragment_of_the_other_code(place, choose):
+    """A file isn't encoded where a fragment of its name is at a place that its code hasn't, whichever."""
+    store, file = place / "store", source(place, "a", choose.randbytes(700))
+    for name in ("x3", "x4", "x5", "y3", "y4", "y5"):
+        shutil.rmtree(store, ignore_errors=True)
+        store.mkdir()
+        (store / f"a.{name}").write_bytes(b"another")
+        said = run("encode", *CODE, store, file, status=1)
+        hold(f"a.{name}: " in said and there(store) == {f"a.{name}": b"another"}, f"{name}: {said}")
+
+
+def test_outputs_whose_folder_is_not_there(place, choose):
+    """Where the folder of the report or of the counters isn't there, whichever, that is said before anything is done."""
+    store, good, bad = place / "store", place / "good", place / "none/file"
+    lay(store, choose)
+    (store / "s.x0").unlink()
+    before = there(store)
+    for words in (("--report", bad), ("--progress", bad), ("--report", good, "--progress", bad), ("--report", bad, "--progress", good)):
+        for command in ("repair", "scrub"):
+            said = run(command, store, *words, status=3)
+            hold(said == f"rebuild-store: {bad}: {os.strerror(errno.ENOENT)}\n" and there(store) == before, f"{command} {words}: {said}")
+
+
 if __name__ == "__main__":
     try_all("store-many", globals(), *sys.argv[1:3])
