@@ -11,13 +11,14 @@ import itertools
 import os
 import re
 import shutil
+import subprocess
 import sys
 
 # No compiled copy of the modules is left beside them.
 sys.dont_write_bytecode = True
 from faults import Calls  # noqa: E402
 from stores import (  # noqa: E402
-    STAGED, Program, begin, hold, lay, run, source, there, try_all, while_waiting, write_sums,
+    SECONDS, STAGED, Program, Skipped, begin, hold, lay, run, source, there, try_all, while_waiting, write_sums,
 )
 
 PLACES = ("x0", "x1", "x2", "y0", "y1", "y2", "px", "py", "p0", "p1")
@@ -240,6 +241,33 @@ def test_outputs_whose_folder_is_not_there(place, choose):
         for command in ("repair", "scrub"):
             said = run(command, store, *words, status=3)
             hold(said == f"rebuild-store: {bad}: {os.strerror(errno.ENOENT)}\n" and there(store) == before, f"{command} {words}: {said}")
+
+
+def test_each_disk_that_is_not_mounted(place, choose):
+    """Where several disks aren't mounted, nothing is made at the mount point of any, of any file, unless that is allowed."""
+    if os.geteuid() != 0:
+        raise Skipped("only root can try it")
+    store, sources = place / "store", [source(place, name, choose.randbytes(700)) for name in "ab"]
+    for number in range(10):
+        (store / f"disk{number}").mkdir(parents=True)
+    for away in ((0, 4), (3, 9), (0, 5, 9)):
+        script = f"""for n in 0 1 2 3 4 5 6 7 8 9; do mount -t tmpfs -o size=4m,mode=755 none {store}/disk$n || exit 77; done
+        p={Program.path}; w="--code 6-2-2 --names disk{{shard}}/{{stripe}} {store}"
+        $p encode $w {sources[0]} {sources[1]}
+        for n in {' '.join(map(str, away))}; do umount {store}/disk$n; done
+        $p repair $w; echo "status $?"; find {store} -type f | wc -l
+        $p repair --allow-unmounted $w; find {store} -type f | wc -l
+        for n in {' '.join(map(str, away))}; do ls -A {store}/disk$n | wc -l; rm {store}/disk$n/*; done"""
+        ended = subprocess.run(["unshare", "--mount", "bash", "-c", script], stdin=subprocess.DEVNULL, capture_output=True, text=True,
+                               timeout=SECONDS)
+        if ended.returncode == 77 or "unshare: " in ended.stderr:
+            raise Skipped(f"nothing can be mounted here: {ended.stderr}")
+        said, whole = ended.stdout + ended.stderr, 2 * 10 * 2 + 1
+        for name in [f"disk{number}/{file}" for number in away for file in ("a", "b", "a.file", "b.file")]:
+            hold(re.search(f"^(?:rebuild-store: )?{name}: ", said, re.M), f"{name} isn't said without {away}: {said}")
+        numbers = [int(line) for line in ended.stdout.splitlines() if line.isdigit()]
+        hold(numbers == [whole - 4 * len(away), whole, *[4] * len(away)] and "status 3\n" in said, f"{away}: {numbers}: {said}")
+        (store / "SHA256SUMS").unlink()
 
 
 if __name__ == "__main__":
