@@ -402,11 +402,20 @@ def test_lost_descriptions_beside_old_ones_that_cannot_be_read(place, choose):
 def test_lost_descriptions_that_cannot_be_made_again(place, choose):
     """Where a description is lost of what is to replace a file, and can't be made again, that is said in the system's words, the file is
     replaced nevertheless, and no description of it says the old one."""
-    calls, store, kept, new, tried = Calls(place, forks=True), place / "store", place / "kept", choose.randbytes(900), set()
-    run("encode", kept, source(place, "a", choose.randbytes(2_000)), status=0)
-    begin(place, kept, new)
-    (kept / f"a{STAGED}.file.copy").unlink()
-    words, right = [Program.path, "encode", store, source(place, "a", b"another")], {"a.file": description(new).encode()}
+    old, new = choose.randbytes(2_000), choose.randbytes(900)
+    for lost, other in (("a.file.copy", "a.file"), ("a.file", "a.file.copy")):
+        where = place / lost
+        where.mkdir()
+        run("encode", where / "kept", source(where, "a", old), status=0)
+        begin(where, where / "kept", new)
+        (where / "kept" / lost.replace("a.", f"a{STAGED}.", 1)).unlink()
+        hold_one_lost(where, new, lost, {other: description(new).encode()})
+
+
+def hold_one_lost(place, new, lost, right):
+    """The same of this one, where the other is right, for each call that fails."""
+    calls, store, kept, tried = Calls(place, forks=True), place / "store", place / "kept", set()
+    words = [Program.path, "encode", store, source(place, "a", b"another")]
     shutil.copytree(kept, store)
     kinds = calls.run(words).kinds
     # By the second link a fragment gets its name.
@@ -417,7 +426,7 @@ def test_lost_descriptions_that_cannot_be_made_again(place, choose):
             ended = calls.run(words, number, EIO)
             hold(ended.status == 3 and ERROR in ended.err, f"call {number}, {kind}: {ended.text()}")
             found = {name: data for name, data in there(store).items() if name.startswith("a.file")}
-            hold(found in (right, right | {"a.file.copy": right["a.file"]}), f"call {number}, {kind}: {found}")
+            hold(found in (right, right | dict.fromkeys([lost], *right.values())), f"call {number}, {kind}: {found}")
             hold(read_back(store, place) == new and wrong_sums(store) == [], f"call {number}, {kind}: not the new file")
             hold(kind == "unlink" or [*store.glob(".rebuild-store-*")] == [], f"call {number}, {kind}: something is left")
             tried.add(kind)
@@ -430,7 +439,7 @@ def test_lost_descriptions_that_cannot_be_made_again(place, choose):
             # What can't be looked at is met before anything is written, or isn't needed, or is said.
             is_left = ended.status == 3 and ERROR in ended.err and found == there(kept)
             is_said = ended.status == 1 or ended.status == 3 and ERROR in ended.err
-            hold(is_left or is_said and found.get("a.file.copy") == right["a.file"], f"call {number}: {ended.text()}")
+            hold(is_left or is_said and [found.get(lost)] == [*right.values()], f"call {number}: {ended.text()}")
 
 
 def test_replacement_whose_folders_cannot_be_made(place, choose):

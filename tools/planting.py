@@ -1,7 +1,7 @@
 """Plants mistakes in the sources of crates, each behind a switch: `planted::on(N)` is true while the mistake N is made. A mistake is one
 that a programmer could make in one line: a condition the other way round, an operand left out, a bound one off, a call or an assignment
-left out, a failure passed over, a loop without its turns, another truth, variant or status. Some mean the same as before; no test can
-tell those."""
+left out, a failure passed over, a loop without its turns, without its first one or with that alone, another truth, variant or status. Some
+mean the same as before; no test can tell those."""
 
 import dataclasses
 import re
@@ -26,7 +26,7 @@ GUARD = re.compile(r'([^"]+) if (.+) => (.*)')
 OPERAND = re.compile(r"(&&|\|\|) (.*?)(\)?;|,)?")
 CALL = re.compile(r"((?:[\w.*]+(?:::\w+)*|[\w.]+\.\w+)\(.*\))(\?)?;")
 ASSIGNED = re.compile(r"(\*?[\w.]+(?:\[\w+\])?) (?:\+=|-=|=|\|=|&=) .+;")
-LOOP = re.compile(r"( *)for .* in .* \{")
+LOOP = re.compile(r"( *)(?:'\w+: )?for .* in .* \{")
 COUNTED = re.compile(r"(for \w+ in 0\.\.)(\w[\w.()]*)( \{)")
 MACRO = re.compile(r"(?:write|writeln|print|println|format|assert\w*|prove)!")
 
@@ -63,17 +63,18 @@ def operands(text, joint):
 
 
 class Planting:
-    """Plants in one crate after the other. Mistakes whose keys are in `left_out` aren't planted, as those that the compiler refuses."""
+    """Plants in one crate after the other. Mistakes whose keys are in `left_out` aren't planted, as those that the compiler refuses, nor
+    are those of other kinds than `kinds`, if there are any."""
 
-    def __init__(self, left_out=()):
-        self.left_out, self.mistakes, self.keys, self.variants, self.place = set(left_out), [], {}, {}, None
+    def __init__(self, left_out=(), kinds=()):
+        self.left_out, self.kinds, self.mistakes, self.keys, self.variants, self.place = set(left_out), kinds, [], {}, {}, None
 
     def switch(self, kind, text):
         """The switch of a new mistake here, or None where it's left out."""
         of_line = f"{self.place[0]}:{self.place[1]}:{kind}:{text}"
         key = f"{of_line}:{sum(it.startswith(of_line) for it in self.keys)}"
         self.keys[key] = None
-        if key in self.left_out:
+        if key in self.left_out or self.kinds and kind not in self.kinds:
             return None
         self.keys[key] = len(self.mistakes) + 1
         self.mistakes.append(Mistake(self.keys[key], *self.place, kind, text))
@@ -160,10 +161,21 @@ class Planting:
         return text
 
     def loop(self, line):
-        """What is planted after the line that opens a loop: it has no turn."""
-        found = LOOP.fullmatch(line)
-        on = self.switch("loop left out", line.strip()) if found else None
-        return [f"{found[1]}    if {on} {{ break; }}"] if on else []
+        """What is planted before and after the line that opens a loop: it has no turn, ends after its first, or begins with the second."""
+        found, text, before, after = LOOP.fullmatch(line), line.strip(), [], []
+        if not found:
+            return before, after
+        pad, later = found[1], f"later_{self.place[1]}"
+        if on := self.switch("loop left out", text):
+            after.append(f"{pad}    if {on} {{ break; }}")
+        if only := self.switch("only the first turn", text):
+            after.append(f"{pad}    if {later} && {only} {{ break; }}")
+        without = self.switch("without the first turn", text)
+        if only or without:
+            before.append(f"{pad}let mut {later} = false;")
+            passed_over = f" if {without} {{ continue; }}" if without else ""
+            after.append(f"{pad}    if !{later} {{ {later} = true;{passed_over} }}")
+        return before, after
 
     def learn(self, files):
         """Learns the variants without fields of the enums in files."""
@@ -183,6 +195,7 @@ class Planting:
                 continue
             for at in range(body[0] + 1, body[1]):
                 self.place = path, at + 1, found[2]
-                planted[at] = [self.line(lines[at]), *self.loop(lines[at])]
+                line, (before, after) = self.line(lines[at]), self.loop(lines[at])
+                planted[at] = [*before, line, *after]
         text = "\n".join(it for at, line in enumerate(lines) for it in planted.get(at, [line]))
         file.write_text(text, encoding="utf-8")
