@@ -1,0 +1,167 @@
+"""What is left, given back or removed where a command ends by itself, however it ends: what holds of each such run, commands that are
+refused, and a table of mounts by which nothing is known of locks."""
+
+import contextlib
+import ctypes
+import os
+
+import trees
+from drawn import STAGED, SUMS
+from failed_runs import is_unfinished
+from known_faults import lock_of_a_refused_run_is_left_unsaid
+from stores import Skipped, hold
+
+DEVICE, NO_MEMORY = 3, 4
+OTHER_CODES = {"6-2-2": "12-2-2", "12-2-2": "6-2-2"}
+LOCK = ".rebuild-store-part-"
+# Of unshare(2), mount(2) and umount2(2).
+NEW_MOUNTS, PRIVATE, DETACH = 0x20000, 0x44000, 2
+
+
+def called(name, *values):
+    """Calls a function of the C library."""
+    library = ctypes.CDLL(None, use_errno=True)
+    if getattr(library, name)(*values):
+        raise Skipped(f"{name}: {os.strerror(ctypes.get_errno())}")
+
+
+@contextlib.contextmanager
+def unknown(place):
+    """A folder on a file system of which nothing is known about locks, which this process alone sees, and those that it starts."""
+    if os.geteuid():
+        raise Skipped("root alone mounts file systems")
+    folder = place / "unknown"
+    folder.mkdir()
+    called("unshare", NEW_MOUNTS)
+    called("mount", b"none", b"/", None, ctypes.c_ulong(PRIVATE), None)
+    called("mount", b"ramfs", os.fsencode(folder), b"ramfs", ctypes.c_ulong(0), None)
+    try:
+        yield folder
+    finally:
+        called("umount2", os.fsencode(folder), DETACH)
+
+
+# What has a command refused, or some of its files: each gives the words and the tree.
+
+
+def as_drawn(_choose, _store, words, tree):
+    return words, tree
+
+
+def with_odd_digests(_choose, _store, words, tree):
+    """The list of digests isn't one."""
+    return words, tree | ({f"store/{SUMS}": trees.file(b"no digests\n")} if "store" in tree else {})
+
+
+def without_fragments(_choose, _store, words, tree):
+    """Nothing of the files is there."""
+    return words, {path: entry for path, entry in tree.items() if not path.startswith("store/")}
+
+
+def with_another_code(_choose, store, words, tree):
+    """The code is another one than that of the store's files."""
+    words = words[:]
+    if "--code" in words:
+        words[words.index("--code") + 1] = OTHER_CODES[store.code]
+    elif words[0] not in ("read", "verify"):
+        words[1:1] = ["--code", OTHER_CODES[store.code]]
+    return words, tree
+
+
+def where_others_write(_choose, _store, words, tree):
+    """Others may write into the store, so that root doesn't."""
+    return words, tree | {"store": trees.folder(0o777)}
+
+
+def with_absent_names(_choose, _store, words, tree):
+    """What names the stripes isn't there."""
+    if words[0] in ("repair", "scrub", "lost", "list") and "--stripes" not in words:
+        return [words[0], "--stripes", "PLACE/absent", *words[1:]], tree
+    return words, tree
+
+
+def with_report_in_store(choose, store, words, tree):
+    """A report is to be written over a file of the store."""
+    there = sorted(name for name in store.right if tree.get(f"store/{name}", trees.folder()).kind == trees.FILE)
+    if words[0] in ("repair", "scrub") and "--report" not in words and there:
+        return [words[0], "--report", f"PLACE/store/{choose.choice(there)}", *words[1:]], tree
+    return words, tree
+
+
+def with_other_names(_choose, _store, words, tree):
+    """Files that aren't there are asked for besides."""
+    return [*words, *(["nothing"] if words[0] in ("remove", "verify") else [])], tree
+
+
+def where_a_part_is_locked(_choose, _store, words, tree):
+    """A run of another host may work on a part of three."""
+    return words, tree | ({f"store/{LOCK}2-of-3": trees.file(b"4711@beta\n", 0o644)} if "store" in tree else {})
+
+
+WAYS = [as_drawn, as_drawn, with_odd_digests, without_fragments, with_another_code, where_others_write, with_absent_names,
+        with_report_in_store, with_other_names, where_a_part_is_locked]
+
+
+# What holds.
+
+
+class Ends:
+    """A run over a tree that ended by itself, after which nothing of its own is left but what couldn't be removed."""
+
+    def __init__(self, trial, ran, found, what, failed=None):
+        self.trial, self.ran, self.found, self.what, self.failed = trial, ran, found, what, failed
+
+    def hold(self, holds, what):
+        hold(holds, f"{what}: {' '.join(self.trial.words)!r}: {self.what}: {self.ran.text()}")
+
+    def judge(self):
+        self.hold(0 <= self.ran.status <= NO_MEMORY, "it didn't end by itself")
+        came = self.found.keys() - self.trial.before.keys()
+        for path in sorted(path for path in came if is_unfinished(path)):
+            if self.ran.status == NO_MEMORY and LOCK not in path:
+                # It is as after a kill.
+                continue
+            self.hold(self.failed and self.is_met(path), f"{path} is left")
+            self.hold_named(path)
+        staged = sorted(path for path in came if STAGED in path and not is_unfinished(path))
+        if staged and self.ran.status != NO_MEMORY:
+            is_met = self.failed and self.failed.kind in ("unlink", "rmdir", "rename", "look") and STAGED in "".join(self.failed.paths)
+            self.hold(self.failed and self.ran.status == DEVICE, f"{staged} are left")
+            self.hold(is_met or self.are_to_replace(), f"{staged} are left, and aren't all of a file")
+        self.hold_refusal()
+
+    def is_met(self, path):
+        """Whether what removes the file of a path failed: of a lock it is seen first whether it is the run's own, which it isn't if it can't
+        be locked."""
+        failed, name = self.failed, os.path.basename(path)
+        kinds = {"unlink", "look", "lock"} if LOCK in path else {"unlink"}
+        names = [os.path.basename(other) for other in failed.paths]
+        return failed.kind in kinds and (name in names or failed.rest == "kind" or LOCK not in path and failed.rest != "")
+
+    def hold_named(self, path):
+        """What is left is named, or its folder."""
+        lines = [line for line in self.failed.lines if self.failed.error in line]
+        # An unfinished file is named by the name that it was to get.
+        names = [os.path.basename(path), str(self.trial.place / os.path.dirname(path))] if LOCK in path else [""]
+        is_named = any(name in line for name in names for line in lines) and self.ran.status == DEVICE
+        self.hold(is_named or lock_of_a_refused_run_is_left_unsaid(self, path), f"{path} is left, and no line names it")
+
+    def are_to_replace(self):
+        """Whether each file that is to replace another one is there, whole, under the names that it is to get or those that it has before, so
+        that the next run ends what was begun."""
+        store, new = self.trial.drawn, self.trial.drawn.newest
+        begun = {name for name in store.sources.values() if any(f"store/{path}" in self.found for path in store.files_of(name + STAGED, b""))}
+        pairs = [(store.path(name, place), store.path(name + STAGED, place)) for name in begun for place in store.order]
+        return all(new[own] in (self.data_at(own), self.data_at(other)) for own, other in pairs)
+
+    def data_at(self, name):
+        entry = self.found.get(f"store/{name}")
+        return entry.data if entry else None
+
+    def hold_refusal(self):
+        """Why a command was refused is said also where its lock can't be removed."""
+        failed = self.failed
+        if failed and failed.kind in ("unlink", "look") and LOCK in failed.paths[-1] and failed.paths[-1] not in self.trial.before:
+            lacks = set(self.trial.ended.err.splitlines()) - set(failed.lines)
+            is_removed = "unlink" not in self.trial.ended.kinds[:failed.number - 1]
+            self.hold(not lacks or not is_removed or failed.kind == "look", f"{lacks} isn't said")

@@ -1,0 +1,157 @@
+#!/usr/bin/env python3
+"""Tries what rebuild-store leaves where it ends by itself, whatever ends it.
+
+    store-ends.py [PROGRAM [TEST [SEED [COUNT]]]]"""
+
+import collections
+import functools
+import random
+import resource
+import subprocess
+import sys
+
+# No compiled copy of the modules is left beside them.
+sys.dont_write_bytecode = True
+import drawn  # noqa: E402
+import drawn_files  # noqa: E402
+import drawn_words  # noqa: E402
+import refusals  # noqa: E402
+import trees  # noqa: E402
+from ends import WAYS, Ends, unknown  # noqa: E402
+from failed_runs import Failed, Trial  # noqa: E402
+from stores import SECONDS, Fault, Program, try_all  # noqa: E402
+
+CALLS, ALLOCATIONS, LIMIT = 8, 4, 300
+
+
+@functools.cache
+def memory_in(place):
+    return refusals.Library(place, forks=True)
+
+
+class Said:
+    """How a run ended, in text."""
+
+    def __init__(self, status, out, err, allocations=0):
+        self.status, self.allocations = status, allocations
+        self.out, self.err = (said.decode(errors="replace") for said in (out, err))
+
+    def text(self):
+        return f"status {self.status}: {self.out[-300:]!r} {self.err[-600:]!r}"
+
+
+def refused(trial, number):
+    """Runs a command that is refused an allocation. Gives how it ended, and what is there then."""
+    trees.change(trial.place, trial.now, trial.before)
+    ran = memory_in(trial.place.parent).run(trial.command, given=trial.given or b"", refusal=refusals.Refusal(allocation=number))
+    trial.now = trees.look(trial.place)
+    return Said(ran.status, ran.out, ran.err, ran.allocations), trial.now
+
+
+def limited(trial):
+    """Runs a command that may write no long file. Gives how it ended, and what is there then."""
+    trees.change(trial.place, trial.now, trial.before)
+    limit = functools.partial(resource.setrlimit, resource.RLIMIT_FSIZE, (LIMIT, LIMIT))
+    ran = subprocess.run(trial.command, input=trial.given or b"", capture_output=True, timeout=SECONDS, preexec_fn=limit)
+    trial.now = trees.look(trial.place)
+    return Said(ran.returncode, ran.stdout, ran.stderr), trial.now
+
+
+def spoilt(words):
+    """Draws a store to which much has happened, and a command."""
+    def draw(choose):
+        store = drawn.spoil(choose, drawn.draw(choose))
+        command = words(choose, store)
+        return store, command, store.tree()
+
+    return draw
+
+
+def part(choose, store):
+    """A repair of a part."""
+    words = drawn_words.repair(choose, store)
+    return words if "--part" in words else [words[0], "--part", choose.choice(["1/2", "2/2", "1/1"]), *words[1:]]
+
+
+DRAWS = {"repair": spoilt(drawn_words.repair), "part": spoilt(part), "scrub": spoilt(drawn_words.scrub), "lost": spoilt(drawn_words.lost),
+         "encode": drawn_files.encode, "read": drawn_files.read, "verify": drawn_files.verify, "remove": drawn_files.remove}
+
+
+def try_store(place, seed, draw, seen):
+    """Draws a store and a command, which may be refused, and has some calls fail, and some memory refused."""
+    choose = random.Random(seed)
+    (place / "trial").mkdir()
+    store, words, tree, *given = draw(choose)
+    words, tree = choose.choice(WAYS)(choose, store, words, tree)
+    trial = Trial(place / "trial", store, words, tree, *given)
+    try:
+        Ends(trial, trial.ended, trial.after, "the whole run").judge()
+        for number in trial.chosen(choose, seen, CALLS):
+            failed = Failed(trial, number, *trial.error(choose, number))
+            if failed.is_made:
+                Ends(trial, failed.ran, failed.found, failed.text(), failed).judge()
+        Ends(trial, *limited(trial), "with a limit on the length of files").judge()
+        many = refused(trial, 0)[0].allocations
+        for number in sorted(choose.sample(range(many // 8, many + 1), min(ALLOCATIONS, many - many // 8))):
+            Ends(trial, *refused(trial, number), f"allocation {number}").judge()
+    except Fault as fault:
+        raise Fault(f"seed {seed!r}: {fault}") from None
+    trial.take_away()
+
+
+def try_stores(place, name, stores):
+    seen = collections.Counter()
+    for number in Program.seeds or range(stores):
+        try_store(place, f"{name} ends {number}", DRAWS[name], seen)
+
+
+def try_unknown(place, name, stores):
+    """The same where nothing is known of locks."""
+    with unknown(place) as folder:
+        try_stores(folder, name, stores)
+
+
+def test_repair(place, _choose):
+    """Repairs."""
+    try_stores(place, "repair", 15)
+
+
+def test_part(place, _choose):
+    """Repairs of a part."""
+    try_stores(place, "part", 20)
+
+
+def test_encode(place, _choose):
+    try_stores(place, "encode", 20)
+
+
+def test_read(place, _choose):
+    try_stores(place, "read", 15)
+
+
+def test_remove(place, _choose):
+    try_stores(place, "remove", 15)
+
+
+def test_scrub(place, _choose):
+    try_stores(place, "scrub", 10)
+
+
+def test_unknown_repair(place, _choose):
+    try_unknown(place, "repair", 20)
+
+
+def test_unknown_part(place, _choose):
+    try_unknown(place, "part", 20)
+
+
+def test_unknown_encode(place, _choose):
+    try_unknown(place, "encode", 20)
+
+
+def test_unknown_remove(place, _choose):
+    try_unknown(place, "remove", 20)
+
+
+if __name__ == "__main__":
+    try_all("store-ends", globals(), *sys.argv[1:])
