@@ -6,7 +6,7 @@ import ctypes
 import os
 
 import trees
-from drawn import STAGED, SUMS
+from drawn import KEPT, STAGED, SUMS
 from failed_runs import is_unfinished
 from known_faults import lock_of_a_refused_run_is_left_unsaid
 from stores import Skipped, hold
@@ -98,7 +98,15 @@ def where_a_part_is_locked(_choose, _store, words, tree):
     return words, tree | ({f"store/{LOCK}2-of-3": trees.file(b"4711@beta\n", 0o644)} if "store" in tree else {})
 
 
-WAYS = [as_drawn, as_drawn, with_odd_digests, without_fragments, with_another_code, where_others_write, with_absent_names,
+def where_others_are_kept(_choose, store, words, tree):
+    """Beside what is damaged an earlier fragment is kept."""
+    wrong = [f"store/{name}" for name, data in store.right.items() if tree.get(f"store/{name}", trees.file(data)).data != data]
+    kept = {path + KEPT: trees.file(b"kept") for path in wrong if tree[path].kind == trees.FILE}
+    more = ["--replace-damaged"] if words[0] == "repair" and "--replace-damaged" not in words else []
+    return [words[0], *more, *words[1:]], tree | kept
+
+
+WAYS = [as_drawn, as_drawn, where_others_are_kept, with_odd_digests, without_fragments, with_another_code, where_others_write, with_absent_names,
         with_report_in_store, with_other_names, where_a_part_is_locked]
 
 
@@ -152,7 +160,9 @@ class Ends:
         store, new = self.trial.drawn, self.trial.drawn.newest
         begun = {name for name in store.sources.values() if any(f"store/{path}" in self.found for path in store.files_of(name + STAGED, b""))}
         pairs = [(store.path(name, place), store.path(name + STAGED, place)) for name in begun for place in store.order]
-        return all(new[own] in (self.data_at(own), self.data_at(other)) for own, other in pairs)
+        copies = {name: [path for of in (name, name + STAGED) for path in store.descriptions(of)] for name in begun}
+        are_described = all(any(self.data_at(path) == new[path] for path in copies[name]) for name in begun)
+        return are_described and all(new[own] in (self.data_at(own), self.data_at(other)) for own, other in pairs)
 
     def data_at(self, name):
         entry = self.found.get(f"store/{name}")

@@ -15,6 +15,7 @@ sys.dont_write_bytecode = True
 import drawn  # noqa: E402
 import drawn_files  # noqa: E402
 import drawn_words  # noqa: E402
+import plans  # noqa: E402
 import refusals  # noqa: E402
 import trees  # noqa: E402
 from ends import WAYS, Ends, unknown  # noqa: E402
@@ -73,7 +74,14 @@ def part(choose, store):
     return words if "--part" in words else [words[0], "--part", choose.choice(["1/2", "2/2", "1/1"]), *words[1:]]
 
 
-DRAWS = {"repair": spoilt(drawn_words.repair), "part": spoilt(part), "scrub": spoilt(drawn_words.scrub), "lost": spoilt(drawn_words.lost),
+def given(choose):
+    """Standard input that is encoded."""
+    while len(found := drawn_files.encode(choose)) < 4:
+        pass
+    return found
+
+
+DRAWS = {"given": given, "repair": spoilt(drawn_words.repair), "part": spoilt(part), "scrub": spoilt(drawn_words.scrub), "lost": spoilt(drawn_words.lost),
          "encode": drawn_files.encode, "read": drawn_files.read, "verify": drawn_files.verify, "remove": drawn_files.remove}
 
 
@@ -111,6 +119,37 @@ def try_unknown(place, name, stores):
         try_stores(folder, name, stores)
 
 
+def try_plans(place, name, stores, law):
+    """Draws so many stores, and holds what is said of each to what is done."""
+    for number in Program.seeds or range(stores):
+        choose = random.Random(f"{name} {number}")
+        (place / "trial").mkdir()
+        store = drawn.spoil(choose, drawn.draw(choose))
+        plans.close(choose, store)
+        options = plans.options_of(choose, store)
+        asked = plans.Asked(place / "trial", store, store.tree())
+        try:
+            law(asked, [*store.names(), *store.words], options)
+        except Fault as fault:
+            raise Fault(f"seed {name} {number}: {fault}") from None
+        asked.take_away()
+
+
+def test_plans(place, _choose):
+    """Dry runs."""
+    try_plans(place, "plans", 60, plans.hold_plan)
+
+
+def test_requests(place, _choose):
+    """Lists of what is lost."""
+    try_plans(place, "requests", 40, lambda asked, words, _options: plans.hold_lost(asked, words))
+
+
+def test_scrubs(place, _choose):
+    """Scrubs, and repairs that replace what is damaged."""
+    try_plans(place, "scrubs", 40, lambda asked, words, _options: plans.hold_scrub(asked, words))
+
+
 def test_repair(place, _choose):
     """Repairs."""
     try_stores(place, "repair", 15)
@@ -123,6 +162,11 @@ def test_part(place, _choose):
 
 def test_encode(place, _choose):
     try_stores(place, "encode", 20)
+
+
+def test_given(place, _choose):
+    """Standard input."""
+    try_stores(place, "given", 15)
 
 
 def test_read(place, _choose):
