@@ -13,6 +13,8 @@ from stores import Skipped, hold
 
 DEVICE, NO_MEMORY = 3, 4
 OTHER_CODES = {"6-2-2": "12-2-2", "12-2-2": "6-2-2"}
+# What fail-call.c has another program make.
+OTHER = b"m"
 LOCK = ".rebuild-store-part-"
 # Of unshare(2), mount(2) and umount2(2).
 NEW_MOUNTS, PRIVATE, DETACH = 0x20000, 0x44000, 2
@@ -131,10 +133,10 @@ class Ends:
                 continue
             self.hold(self.failed and self.is_met(path), f"{path} is left")
             self.hold_named(path)
-        staged = sorted(path for path in came if STAGED in path and not is_unfinished(path))
+        staged = sorted(path for path in came if STAGED in path and not is_unfinished(path) and self.found[path].data != OTHER)
         if staged and self.ran.status != NO_MEMORY:
             is_met = self.failed and self.failed.kind in ("unlink", "rmdir", "rename", "look") and STAGED in "".join(self.failed.paths)
-            self.hold(self.failed and self.ran.status == DEVICE, f"{staged} are left")
+            self.hold(self.ran.status, f"{staged} are left")
             self.hold(is_met or self.are_to_replace(), f"{staged} are left, and aren't all of a file")
         self.hold_refusal()
 

@@ -5,8 +5,10 @@
 
 import collections
 import functools
+import os
 import random
 import resource
+import shutil
 import subprocess
 import sys
 
@@ -19,10 +21,12 @@ import plans  # noqa: E402
 import refusals  # noqa: E402
 import trees  # noqa: E402
 from ends import WAYS, Ends, unknown  # noqa: E402
-from failed_runs import Failed, Trial  # noqa: E402
-from stores import SECONDS, Fault, Program, try_all  # noqa: E402
+from failed_runs import Failed, Trial, is_unfinished  # noqa: E402
+from faults import Calls  # noqa: E402
+from stores import SECONDS, Fault, Program, hold, source, try_all, while_waiting  # noqa: E402
 
-CALLS, ALLOCATIONS, LIMIT = 8, 4, 300
+# How many calls of any kind fail, before how many another file comes, how many allocations are refused, and a limit on files.
+CALLS, MEANWHILE, ALLOCATIONS, LIMIT = 2, 2, 3, 300
 
 
 @functools.cache
@@ -85,6 +89,16 @@ DRAWS = {"given": given, "repair": spoilt(drawn_words.repair), "part": spoilt(pa
          "encode": drawn_files.encode, "read": drawn_files.read, "verify": drawn_files.verify, "remove": drawn_files.remove}
 
 
+def chosen(trial, choose, seen):
+    """The numbers of some calls: one of each kind, those first between kinds that were seen least, and some more."""
+    around, first = trial.around(), {}
+    for number in sorted(around, key=lambda number: (seen[around[number][0], *around[number][3:6]], choose.random())):
+        first.setdefault(trial.ended.kinds[number - 1], number)
+    for number in first.values():
+        seen[around[number][0], *around[number][3:6]] += 1
+    return sorted({*first.values(), *trial.chosen(choose, seen, CALLS)})
+
+
 def try_store(place, seed, draw, seen):
     """Draws a store and a command, which may be refused, and has some calls fail, and some memory refused."""
     choose = random.Random(seed)
@@ -94,10 +108,12 @@ def try_store(place, seed, draw, seen):
     trial = Trial(place / "trial", store, words, tree, *given)
     try:
         Ends(trial, trial.ended, trial.after, "the whole run").judge()
-        for number in trial.chosen(choose, seen, CALLS):
+        for number in chosen(trial, choose, seen):
             failed = Failed(trial, number, *trial.error(choose, number))
             if failed.is_made:
                 Ends(trial, failed.ran, failed.found, failed.text(), failed).judge()
+        for number in [number for number, kind in enumerate(trial.ended.kinds, 1) if kind == "link"][:MEANWHILE]:
+            Ends(trial, *trial.run(trial.before, number, "meanwhile"), f"another file came before call {number}").judge()
         Ends(trial, *limited(trial), "with a limit on the length of files").judge()
         many = refused(trial, 0)[0].allocations
         for number in sorted(choose.sample(range(many // 8, many + 1), min(ALLOCATIONS, many - many // 8))):
@@ -167,6 +183,21 @@ def test_encode(place, _choose):
 def test_given(place, _choose):
     """Standard input."""
     try_stores(place, "given", 15)
+
+
+def test_taken_meanwhile(place, choose):
+    """A file that comes under a name while a file is encoded has it refused, and nothing is left of what was made."""
+    calls, store, path = Calls(place), place / "store", source(place, "s", choose.randbytes(600))
+    store.mkdir()
+    words = [Program.path, "encode", store, path]
+    number = calls.run(words).kinds.index("create") + 1
+    for name in ("s.x0", "s.y1", "s.p1", "s.file"):
+        shutil.rmtree(store)
+        store.mkdir()
+        status, said = while_waiting(calls, place, words, number, lambda name=name: (store / name).write_bytes(b"other"))
+        hold(status == 1 and f"{name}: is there already, with other bytes" in said, f"{name}: status {status}: {said}")
+        hold(os.listdir(store) == [name] or name == "s.file", f"{name}: {os.listdir(store)}: {said}")
+        hold(not any(is_unfinished(path) for path in os.listdir(store)), f"{name}: {os.listdir(store)}: {said}")
 
 
 def test_read(place, _choose):
