@@ -8,7 +8,6 @@ import os
 import trees
 from drawn import KEPT, STAGED, SUMS
 from failed_runs import is_unfinished
-from known_faults import lock_of_a_refused_run_is_left_unsaid
 from stores import Skipped, hold
 
 DEVICE, NO_MEMORY = 3, 4
@@ -154,7 +153,9 @@ class Ends:
         # An unfinished file is named by the name that it was to get.
         names = [os.path.basename(path), str(self.trial.place / os.path.dirname(path))] if LOCK in path else [""]
         is_named = any(name in line for name in names for line in lines) and self.ran.status == DEVICE
-        self.hold(is_named or lock_of_a_refused_run_is_left_unsaid(self, path), f"{path} is left, and no line names it")
+        # If the store is refused that alone is said.
+        is_refused = LOCK in path and self.trial.ended.status != 0
+        self.hold(is_named or is_refused, f"{path} is left, and no line names it")
 
     def are_to_replace(self):
         """Whether each file that is to replace another one is there, whole, under the names that it is to get or those that it has before, so

@@ -21,11 +21,6 @@ def lock_that_cannot_be_removed_is_not_named(judge):
     return class_of(judge) == "lock" and judge.failed.kind in ("look", "unlink") and judge.trial.words[0] not in ("encode", "remove")
 
 
-def lock_of_a_refused_run_is_left_unsaid(ends, path):
-    """The store's refusal alone is said."""
-    return "-part-" in path and ends.trial.ended.status != 0
-
-
 OF_READS = [folder_that_cannot_be_looked_at_is_taken_for_a_good_one, store_that_cannot_be_read_is_refused_as_none]
 
 

@@ -6,9 +6,11 @@ import os
 import re
 import subprocess
 
+import drawn
 import trees
 from drawn import KEPT, SUMS
-from stores import SECONDS, Program, digest, hold
+from laws import shown
+from stores import SECONDS, Program, hold
 
 NOBODY = 65534
 PLANNED = re.compile(r"^\d+ stripes? of \S+, .*?; \d+ lost in \d+; (\d+) can be rebuilt \((\d+) unchecked\)(?:, with --replace-damaged (\d+))?"
@@ -83,16 +85,24 @@ class Asked:
                 return False
         return True
 
+    def is_known(self, stripe):
+        """Whether digests or files say that a stripe should be there."""
+        names, listed = [self.drawn.path(stripe, place) for place in self.drawn.order], self.listed()
+        there = [name for name in names if (entry := self.entry(name, False)) and entry.kind == trees.FILE]
+        return len(there) > 1 or any(name in listed for name in names)
+
     def is_described(self, stripe, follows):
         """Whether a copy of a stripe's description is right."""
         has = [(self.entry(name, follows), self.drawn.right.get(name)) for name in self.drawn.descriptions(stripe)]
         return any(entry and entry.kind == trees.FILE and entry.data == right for entry, right in has)
 
     def is_placed(self, name, root, follows):
-        """Whether a file can get a name: its folder is there, and no file is kept that was replaced before."""
-        folder = os.path.dirname(name)
-        has = self.tree.get(f"{root}/{folder}") if root != "store" else self.entry(folder, follows)
-        return (not folder or has is not None and has.kind == trees.FOLDER) and f"{root}/{name}{KEPT}" not in self.tree
+        """Whether a file can get a name: its folder is there, its user may enter it if nothing has the name, and no file is kept beside it
+        that was replaced before."""
+        folder, path = os.path.dirname(name), f"{root}/{name}"
+        has = (self.tree.get(f"{root}/{folder}") if root != "store" else self.entry(folder, follows)) if folder else self.tree[root]
+        may_enter = has is not None and has.kind == trees.FOLDER and (has.mode & 0o100 or has.mode and path in self.tree)
+        return may_enter and path + KEPT not in self.tree
 
 
 class Answer:
@@ -142,9 +152,18 @@ def hold_plan(asked, words, options):
     for stripe, place in done.places("rebuilt"):
         name = asked.drawn.path(stripe, place)
         hold(follows or f"{root}/{name}" in done.found, f"{name} isn't there: {done.text()}")
+    if PLANNED.search(plan.err) and REPAIRED.search(done.err):
+        hold_rows_counted(plan, done)
     if foreseen == set(asked.drawn.data) and not is_other:
         hold_counted(plan, done)
     return plan, done
+
+
+def hold_rows_counted(plan, done):
+    """Each last line counts the rows of what is left, of which some would be replaced."""
+    for answer, more, left in ((plan, *PLANNED.search(plan.err).group(3, 4)), (done, *REPAIRED.search(done.err).group("more", "left"))):
+        rows = [row for row in answer.rows if row["outcome"] == "left"]
+        hold(len(rows) == int(more or 0) + int(left), f"{len(rows)} rows say what is left: {answer.text()}")
 
 
 def hold_counted(plan, done):
@@ -161,22 +180,53 @@ def hold_counted(plan, done):
     hold((plan.status == 3) == (done.status == 3), f"one alone has status 3: {plan.text()} and {done.text()}")
 
 
-def close(choose, drawn):
+def draw(choose):
+    """A store to which much has happened, in which a stripe may have lost all, and a link may lead to another fragment's name."""
+    store = drawn.spoil(choose, drawn.draw(choose))
+    if choose.random() < 0.2:
+        gone = choose.choice(sorted(store.data))
+        for name in [name for name, stripe in store.of_stripe.items() if stripe == gone]:
+            if store.within.get(name, trees.folder()).kind == trees.FILE:
+                del store.within[name]
+    if choose.random() < 0.3:
+        share(choose, store)
+    close(choose, store)
+    return store
+
+
+def share(choose, store):
+    """Where two fragments are absent, the name of one is a link to that of the other."""
+    of_copies = {path for stripe in store.data for path in store.descriptions(stripe)}
+    folders = {name for name, entry in store.within.items() if entry.kind == trees.LINK}
+    there = [name for name in store.right if name not in store.within and name not in of_copies and os.path.dirname(name) not in folders]
+    if len(there) > 1:
+        name, other = choose.sample(sorted(there), 2)
+        store.within[name] = trees.link(os.path.relpath(other, os.path.dirname(name)))
+        for folder in {os.path.dirname(other)} - {""}:
+            store.within.setdefault(folder, trees.folder())
+        store.words += [] if "--follow-links" in store.words else ["--follow-links"]
+
+
+def close(choose, store):
     """Some fragments can't be read, if it isn't root who lays them for another user."""
-    there = sorted(name for name, entry in drawn.within.items() if entry.kind == trees.FILE and name in drawn.right)
+    there = sorted(name for name, entry in store.within.items() if entry.kind == trees.FILE and name in store.right)
     if os.geteuid() == 0 and choose.random() < 0.6:
         for name in choose.sample(there, min(len(there), choose.choice((1, 1, 2, 3)))):
-            drawn.within[name] = drawn.within[name]._replace(mode=0)
+            store.within[name] = store.within[name]._replace(mode=0)
+    if os.geteuid() == 0 and store.folders() and choose.random() < 0.25:
+        folder = choose.choice(sorted(store.folders()))
+        if store.within.get(folder, trees.folder()).kind == trees.FOLDER:
+            store.within[folder] = trees.folder(choose.choice((0, 0o600, 0o600)))
 
 
-def options_of(choose, drawn):
+def options_of(choose, store):
     """What a repair is given."""
     options = [word for word, share in (("--replace-damaged", 0.5), ("--assume-one-damaged", 0.15)) if choose.random() < share]
     if choose.random() < 0.3:
         options += ["--reads", choose.choice(("checked", "all", "few"))]
     if choose.random() < 0.3:
         options += ["--to", "PLACE/to"]
-        drawn.beside |= {os.path.join("to", folder): trees.folder() for folder in drawn.folders()} | {"to": trees.folder()}
+        store.beside |= {os.path.join("to", folder): trees.folder() for folder in store.folders()} | {"to": trees.folder()}
     return options
 
 
@@ -186,8 +236,15 @@ def hold_lost(asked, words):
     done = asked.run("repair", "--json", *words, "PLACE/store")
     asked_for = {tuple(row[key] for key in REQUEST) for row in asks.rows}
     made, left = done.places("rebuilt"), done.places("left")
+    for stripe in asked.drawn.data:
+        if asked.is_known(stripe) and f"{shown(stripe)}: its fragments have different lengths" not in asks.err and asks.rows:
+            names = [(place, asked.entry(asked.drawn.path(stripe, place), "--follow-links" in words)) for place in asked.drawn.order]
+            absent = {(stripe, place) for place, entry in names if entry is None or entry.kind != trees.FILE}
+            hold(absent <= asked_for, f"{absent - asked_for} aren't asked for: {asks.text()}")
     whole = {row["stripe"] for row in done.rows if row["outcome"] == "left" and row["place"] == ""}
     hold(made <= asked_for, f"{made - asked_for} are made, and weren't asked for: {asks.text()} and {done.text()}")
+    if "is this the store?" in done.err:
+        return
     lacks = {(stripe, place) for stripe, place in asked_for - made - left if stripe not in whole}
     hold(not lacks, f"{lacks} are asked for, and neither made nor named: {asks.text()} and {done.text()}")
 
@@ -200,6 +257,8 @@ def hold_scrub(asked, words):
     named, made = said.places("left"), done.places("rebuilt")
     hold(made <= named, f"{made - named} are made, and weren't named: {said.text()} and {done.text()}")
     whole = {row["stripe"] for row in done.rows if row["outcome"] == "left" and row["place"] == ""}
+    if "is this the store?" in done.err:
+        return
     lacks = {pair for pair in named - made - done.places("left") if pair[0] not in whole}
     hold(not lacks, f"{lacks} are named, and neither mended nor named by a repair: {said.text()} and {done.text()}")
     again = {(row["stripe"], row["place"], row["detail"]) for row in said.rows if row["outcome"] == "left"}

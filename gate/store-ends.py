@@ -140,8 +140,7 @@ def try_plans(place, name, stores, law):
     for number in Program.seeds or range(stores):
         choose = random.Random(f"{name} {number}")
         (place / "trial").mkdir()
-        store = drawn.spoil(choose, drawn.draw(choose))
-        plans.close(choose, store)
+        store = plans.draw(choose)
         options = plans.options_of(choose, store)
         asked = plans.Asked(place / "trial", store, store.tree())
         try:
