@@ -4,10 +4,12 @@ refused, and a table of mounts by which nothing is known of locks."""
 import contextlib
 import ctypes
 import os
+import re
 
 import trees
 from drawn import KEPT, STAGED, SUMS
 from failed_runs import is_unfinished
+from laws import LAST
 from stores import Skipped, hold
 
 DEVICE, NO_MEMORY = 3, 4
@@ -40,6 +42,11 @@ def unknown(place):
         yield folder
     finally:
         called("umount2", os.fsencode(folder), DETACH)
+
+
+def own_part(words):
+    """The part of a store that a command works on, as the name of its lock says it."""
+    return words[words.index("--part") + 1].replace("/", "-of-") if "--part" in words else "1-of-1"
 
 
 # What has a command refused, or some of its files: each gives the words and the tree.
@@ -107,8 +114,15 @@ def where_others_are_kept(_choose, store, words, tree):
     return [words[0], *more, *words[1:]], tree | kept
 
 
-WAYS = [as_drawn, as_drawn, where_others_are_kept, with_odd_digests, without_fragments, with_another_code, where_others_write, with_absent_names,
-        with_report_in_store, with_other_names, where_a_part_is_locked]
+def where_a_lock_is_left(choose, _store, words, tree):
+    """A run of the same part was killed."""
+    root = "to" if "--to" in words else "store"
+    run = f"99999999@{re.sub('[^A-Za-z0-9._-]', '_', os.uname().nodename)}\n".encode()
+    return words, tree | ({f"{root}/{LOCK}{own_part(words)}": trees.file(choose.choice((b"", run, run)))} if root in tree else {})
+
+
+WAYS = [as_drawn, as_drawn, where_others_are_kept, with_odd_digests, without_fragments, with_another_code, where_others_write,
+        with_absent_names, with_report_in_store, with_other_names, where_a_part_is_locked, where_a_lock_is_left]
 
 
 # What holds.
@@ -138,30 +152,38 @@ class Ends:
             self.hold(self.ran.status, f"{staged} are left")
             self.hold(is_met or self.are_to_replace(), f"{staged} are left, and aren't all of a file")
         self.hold_refusal()
+        if self.ran.status != NO_MEMORY:
+            self.hold_own_lock()
 
     def is_met(self, path):
-        """Whether what removes the file of a path failed: of a lock it is seen first whether it is the run's own, which it isn't if it can't
-        be locked."""
+        """Whether what removes the file of a path failed: of a lock it is seen first whether it is the run's own, which it isn't if it
+        can't be locked."""
         failed, name = self.failed, os.path.basename(path)
         kinds = {"unlink", "look", "lock"} if LOCK in path else {"unlink"}
         names = [os.path.basename(other) for other in failed.paths]
         return failed.kind in kinds and (name in names or failed.rest == "kind" or LOCK not in path and failed.rest != "")
 
     def hold_named(self, path):
-        """What is left is named, or its folder."""
+        """What is left is named, or of a lock the store."""
         lines = [line for line in self.failed.lines if self.failed.error in line]
         # An unfinished file is named by the name that it was to get.
-        names = [os.path.basename(path), str(self.trial.place / os.path.dirname(path))] if LOCK in path else [""]
+        names = [os.path.basename(path), f"{self.trial.place}/store"] if LOCK in path else [""]
         is_named = any(name in line for name in names for line in lines) and self.ran.status == DEVICE
         # If the store is refused that alone is said.
-        is_refused = LOCK in path and self.trial.ended.status != 0
-        self.hold(is_named or is_refused, f"{path} is left, and no line names it")
+        self.hold(is_named or LOCK in path and self.is_refused(), f"{path} is left, and no line names it")
+
+    def is_refused(self):
+        """Whether the command ends before it works, also if no call fails."""
+        ended, last = self.trial.ended, LAST[self.trial.words[0]]
+        has_last = "--quiet" not in self.trial.words and (last.search(ended.out) or last.search(ended.err))
+        return ended.status != 0 and not has_last
 
     def are_to_replace(self):
-        """Whether each file that is to replace another one is there, whole, under the names that it is to get or those that it has before, so
-        that the next run ends what was begun."""
+        """Whether each file that is to replace another one is there, whole, under the names that it is to get or those that it has before,
+        so that the next run ends what was begun."""
         store, new = self.trial.drawn, self.trial.drawn.newest
-        begun = {name for name in store.sources.values() if any(f"store/{path}" in self.found for path in store.files_of(name + STAGED, b""))}
+        staged = {name: [f"store/{path}" for path in store.files_of(name + STAGED, b"")] for name in store.sources.values()}
+        begun = [name for name, paths in staged.items() if self.found.keys() & set(paths)]
         pairs = [(store.path(name, place), store.path(name + STAGED, place)) for name in begun for place in store.order]
         copies = {name: [path for of in (name, name + STAGED) for path in store.descriptions(of)] for name in begun}
         are_described = all(any(self.data_at(path) == new[path] for path in copies[name]) for name in begun)
@@ -172,9 +194,30 @@ class Ends:
         return entry.data if entry else None
 
     def hold_refusal(self):
-        """Why a command was refused is said also where its lock can't be removed."""
-        failed = self.failed
-        if failed and failed.kind in ("unlink", "look") and LOCK in failed.paths[-1] and failed.paths[-1] not in self.trial.before:
-            lacks = set(self.trial.ended.err.splitlines()) - set(failed.lines)
-            is_removed = "unlink" not in self.trial.ended.kinds[:failed.number - 1]
-            self.hold(not lacks or not is_removed or failed.kind == "look", f"{lacks} isn't said")
+        """Why a command is refused is said also where its lock can't be given back."""
+        failed, words = self.failed, self.trial.words
+        if not failed or failed.kind not in ("unlink", "look") or LOCK not in failed.paths[-1]:
+            return
+        if failed.paths[-1] not in self.trial.before and self.is_refused() and "--quiet" not in words:
+            lacks, kinds = set(self.trial.ended.err.splitlines()) - set(failed.lines), self.trial.ended.kinds[:failed.number - 1]
+            # It is looked at first when it is made, and for the last time after the store is listed.
+            is_given_back = "lock" in kinds and "list" in kinds[len(kinds) - kinds[::-1].index("lock"):]
+            self.hold(not lacks or not is_given_back, f"{lacks} isn't said")
+
+    def own_lock(self):
+        """The path of the file that is a run's lock, if it has one."""
+        words, root = self.trial.words, "to" if "--to" in self.trial.words else "store"
+        is_unknown = "unknown" in self.trial.place.parts
+        if words[0] not in ("repair", "encode", "remove") or "--dry-run" in words or "--part" not in words and not is_unknown:
+            return None
+        return f"{root}/{LOCK}{own_part(words)}"
+
+    def hold_own_lock(self):
+        """A run takes away the file of its lock, also one that a run has left there which was killed."""
+        path, failed = self.own_lock(), self.failed
+        if path is None or " may work in this store" in self.ran.err:
+            return
+        is_met = failed and os.path.basename(path) in map(os.path.basename, failed.paths) and (failed.kind != "write" or failed.rest)
+        # It isn't taken if the folder can't be.
+        is_early = failed and "create" not in self.trial.ended.kinds[:failed.number - 1]
+        self.hold(path not in self.found or is_met or is_early or failed and failed.rest == "kind", f"{path} is left")

@@ -13,11 +13,12 @@ from laws import shown
 from stores import SECONDS, Program, hold
 
 NOBODY = 65534
-PLANNED = re.compile(r"^\d+ stripes? of \S+, .*?; \d+ lost in \d+; (\d+) can be rebuilt \((\d+) unchecked\)(?:, with --replace-damaged (\d+))?"
-                     r", (\d+) can't; reads .*?, writes (.*?)(?:; (\d+) descriptions? can be made)?$", re.M)
+PLANNED = re.compile(r"^\d+ stripes? of \S+, .*?; \d+ lost in \d+; (\d+) can be rebuilt \((\d+) unchecked\)"
+                     r"(?:, with --replace-damaged (\d+))?, (\d+) can't; reads .*?, writes (.*?)"
+                     r"(?:; (\d+) descriptions? can be made)?$", re.M)
 REPAIRED = re.compile(r"^repaired (?P<rebuilt>\d+) fragments?, (?P<bytes>.*?) \((?P<unchecked>\d+) unchecked[^)]*?\); damaged: \d+.*?"
-                      r"(?:; left without --replace-damaged: (?P<more>\d+))?; not possible: (?P<left>\d+)(?:; (?P<made>\d+) descriptions? made)?$",
-                      re.M | re.S)
+                      r"(?:; left without --replace-damaged: (?P<more>\d+))?; not possible: (?P<left>\d+)"
+                      r"(?:; (?P<made>\d+) descriptions? made)?$", re.M | re.S)
 UNCOVERED = "isn't replaced: no check covers what would be put in its place"
 REQUEST = ("stripe", "target")
 
@@ -75,8 +76,8 @@ class Asked:
                 for value, name in names}
 
     def is_foreseen(self, stripe, follows, options):
-        """Whether a dry run, which reads nothing but what has digests, sees what is wrong in a stripe: each fragment is right, or isn't there
-        as a file, or has a digest and is read."""
+        """Whether a dry run, which reads nothing but what has digests, sees what is wrong in a stripe: each fragment is right, or isn't
+        there as a file, or has a digest and is read."""
         listed, right = self.listed() if reads_all(options) else (), self.drawn.right
         for place in self.drawn.order:
             name = self.drawn.path(stripe, place)
@@ -146,7 +147,7 @@ def hold_plan(asked, words, options):
         for row in list(differing):
             name = row[2].split(": ")[0] if row[0] == "file" else asked.drawn.path(stripe, row[0]) if row[0] else ""
             if not asked.is_placed(name, root, follows) or row[0] == "file" and not asked.is_described(stripe, follows):
-                # It isn't said before whether what is rebuilt can get its name, and which description fragments give that are rebuilt first.
+                # It isn't said before whether what is rebuilt can get its name, and what descriptions are that rebuilt fragments give.
                 is_other |= bool(differing.pop(row))
         hold(not differing, f"of {stripe!r} a dry run says something else: {dict(differing)}: {plan.text()} and {done.text()}")
     for stripe, place in done.places("rebuilt"):

@@ -1,7 +1,13 @@
 #!/usr/bin/env python3
-"""Tries what rebuild-store leaves where it ends by itself, whatever ends it.
+"""Tries what rebuild-store leaves where it ends by itself, whatever ends it, and whether it does what it said before that it would do.
 
-    store-ends.py [PROGRAM [TEST [SEED [COUNT]]]]"""
+    store-ends.py [PROGRAM [TEST [SEED [COUNT]]]]
+
+Over small stores of random states, some of which are refused, a command is run whole, with calls that fail, with refused memory, under a
+limit on files, and while other files come: no lock, no unfinished file and nothing that was to replace a file is left but what couldn't be
+removed, which is named (ends.py). A dry run, a scrub and a list of requests are held to what a repair of the same store then does
+(plans.py). A fault names the seed of the store, the command and the call. With SEED that store alone is tried, or COUNT from it on; the
+calls that fail in it may be others then."""
 
 import collections
 import functools
@@ -85,8 +91,9 @@ def given(choose):
     return found
 
 
-DRAWS = {"given": given, "repair": spoilt(drawn_words.repair), "part": spoilt(part), "scrub": spoilt(drawn_words.scrub), "lost": spoilt(drawn_words.lost),
-         "encode": drawn_files.encode, "read": drawn_files.read, "verify": drawn_files.verify, "remove": drawn_files.remove}
+DRAWS = {name: spoilt(words) for name, words in (("repair", drawn_words.repair), ("part", part), ("scrub", drawn_words.scrub))}
+DRAWS |= {"given": given, "encode": drawn_files.encode, "read": drawn_files.read, "remove": drawn_files.remove}
+
 
 
 def chosen(trial, choose, seen):
@@ -152,17 +159,17 @@ def try_plans(place, name, stores, law):
 
 def test_plans(place, _choose):
     """Dry runs."""
-    try_plans(place, "plans", 60, plans.hold_plan)
+    try_plans(place, "plans", 120, plans.hold_plan)
 
 
 def test_requests(place, _choose):
     """Lists of what is lost."""
-    try_plans(place, "requests", 40, lambda asked, words, _options: plans.hold_lost(asked, words))
+    try_plans(place, "requests", 60, lambda asked, words, _options: plans.hold_lost(asked, words))
 
 
 def test_scrubs(place, _choose):
     """Scrubs, and repairs that replace what is damaged."""
-    try_plans(place, "scrubs", 40, lambda asked, words, _options: plans.hold_scrub(asked, words))
+    try_plans(place, "scrubs", 60, lambda asked, words, _options: plans.hold_scrub(asked, words))
 
 
 def test_repair(place, _choose):
