@@ -265,3 +265,15 @@ def hold_scrub(asked, words):
     again = {(row["stripe"], row["place"], row["detail"]) for row in said.rows if row["outcome"] == "left"}
     was = {(row["stripe"], row["place"], row["detail"]) for row in done.rows if row["outcome"] == "was" and row["place"] != "file"}
     hold(was <= again, f"{was - again} were replaced for another reason: {said.text()} and {done.text()}")
+    hold_replaceable(asked, words, done)
+
+
+def hold_replaceable(asked, words, done):
+    """What a repair says that --replace-damaged would replace is what it replaces."""
+    left = asked.run("repair", "--reads", "all", "--json", *words, "PLACE/store")
+    counts = REPAIRED.search(left.err)
+    if counts and REPAIRED.search(done.err) and not any(path.endswith(KEPT) for path in asked.tree):
+        rows = [row for row in done.rows if row["outcome"] == "rebuilt"]
+        names = [row["detail"] if row["place"] == "file" else asked.drawn.path(row["stripe"], row["place"]) for row in rows]
+        were = [name for name in names if (entry := asked.entry(name, "--follow-links" in words)) and entry.kind == trees.FILE]
+        hold(int(counts["more"] or 0) == len(were), f"{were} are replaced: {left.text()} and {done.text()}")

@@ -95,7 +95,6 @@ DRAWS = {name: spoilt(words) for name, words in (("repair", drawn_words.repair),
 DRAWS |= {"given": given, "encode": drawn_files.encode, "read": drawn_files.read, "remove": drawn_files.remove}
 
 
-
 def chosen(trial, choose, seen):
     """The numbers of some calls: one of each kind, those first between kinds that were seen least, and some more."""
     around, first = trial.around(), {}
