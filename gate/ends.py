@@ -161,6 +161,8 @@ class Ends:
         failed, name = self.failed, os.path.basename(path)
         kinds = {"unlink", "look", "lock"} if LOCK in path else {"unlink"}
         names = [os.path.basename(other) for other in failed.paths]
+        if failed.kind == "look" and not failed.rest and not self.is_given_back():
+            return False
         return failed.kind in kinds and (name in names or failed.rest == "kind" or LOCK not in path and failed.rest != "")
 
     def hold_named(self, path):
@@ -199,10 +201,13 @@ class Ends:
         if not failed or failed.kind not in ("unlink", "look") or LOCK not in failed.paths[-1]:
             return
         if failed.paths[-1] not in self.trial.before and self.is_refused() and "--quiet" not in words:
-            lacks, kinds = set(self.trial.ended.err.splitlines()) - set(failed.lines), self.trial.ended.kinds[:failed.number - 1]
-            # It is looked at first when it is made, and for the last time after the store is listed.
-            is_given_back = "lock" in kinds and "list" in kinds[len(kinds) - kinds[::-1].index("lock"):]
-            self.hold(not lacks or not is_given_back, f"{lacks} isn't said")
+            lacks = set(self.trial.ended.err.splitlines()) - set(failed.lines)
+            self.hold(not lacks or not self.is_given_back(), f"{lacks} isn't said")
+
+    def is_given_back(self):
+        """Whether a call fails after the store was listed: a lock is looked at when it is made, before that, and when it is given back."""
+        kinds = self.trial.ended.kinds[:self.failed.number - 1]
+        return "create" in kinds and "list" in kinds[kinds.index("create"):]
 
     def own_lock(self):
         """The path of the file that is a run's lock, if it has one."""
