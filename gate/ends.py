@@ -139,14 +139,14 @@ class Ends:
 
     def judge(self):
         self.hold(0 <= self.ran.status <= NO_MEMORY, "it didn't end by itself")
-        came = self.found.keys() - self.trial.before.keys()
+        came = {path for path in self.found.keys() - self.trial.before.keys() if self.found[path].data != OTHER}
         for path in sorted(path for path in came if is_unfinished(path)):
             if self.ran.status == NO_MEMORY and LOCK not in path:
                 # It is as after a kill.
                 continue
             self.hold(self.failed and self.is_met(path), f"{path} is left")
             self.hold_named(path)
-        staged = sorted(path for path in came if STAGED in path and not is_unfinished(path) and self.found[path].data != OTHER)
+        staged = sorted(path for path in came if STAGED in path and not is_unfinished(path))
         if staged and self.ran.status != NO_MEMORY:
             is_met = self.failed and self.failed.kind in ("unlink", "rmdir", "rename", "look") and STAGED in "".join(self.failed.paths)
             self.hold(self.ran.status, f"{staged} are left")
