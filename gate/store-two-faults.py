@@ -141,6 +141,7 @@ def hold_both(both, number_alone):
     def holds(is_so, what):
         hold(is_so, f"{what}: {both.text()}")
 
+    hold_again(both, judges)
     is_one = is_one_fault(both, judges)
     if first.said and not loses_cause(both):
         holds(earlier.said or is_one and both.said, f"{first.error!r} isn't said any more")
@@ -150,8 +151,29 @@ def hold_both(both, number_alone):
             holds(both.said, f"{both.error!r} isn't said any more")
     holds(both.ran.status >= first.ran.status, f"status {both.ran.status}, and {first.ran.status} with the first failure alone")
     hold_left(both, judges, holds)
-    # A file that couldn't be given away is its user's after the same command again.
-    judges[first.kind == "chown"].hold_again()
+
+
+def hold_again(both, judges):
+    """The same command again does the rest, unless it doesn't after the first failure alone: store-random-faults.py tries that. It comes
+    at once, while files have what other names they got."""
+    if "is this the store?" in both.trial.ended.err:
+        # A store that is refused since no stripe fits its code isn't if some can't be read.
+        return
+    try:
+        # A file that couldn't be given away is its user's after the same command again.
+        judges[both.first.kind == "chown"].hold_again()
+    except Fault:
+        if ends_well_again(both.first):
+            raise
+
+
+def ends_well_again(first):
+    """Whether the same command again does the rest after the first failure alone, as store-random-faults.py has it in most stores."""
+    try:
+        judge_of(first).hold_again()
+    except Fault:
+        return False
+    return True
 
 
 def hold_left(both, judges, holds):
@@ -312,6 +334,8 @@ def try_refused(place, seed):
         whole, before = trial.ended, {path for path in trial.before if is_unfinished(path)}
         last = LAST[trial.words[0]]
         is_refused = whole.status in (1, 2, DEVICE) and not last.search(whole.out + whole.err) and whole.err
+        left = {path for path in trial.after if is_unfinished(path)} - before
+        hold(not left, f"{left} is left: {Failed(trial).text()}")
         kinds = whole.kinds
         first = max((number for number, kind in enumerate(kinds, 1) if kind == "list"), default=0)
         for number in range(max(first, len(kinds) - 30) + 1, len(kinds) + 1) if is_refused else []:
