@@ -175,9 +175,9 @@ try-ceph-releases: store
 STORE := ceph/test.sh $(addprefix gate/,store-files.py store-strangers.py store-faults.py file-faults.py encode-store.py store-damage.py \
   repair-store.py store-watching.py store-sharing.py packages.sh store-life.py store-options.py store-arguments.py store-results.py \
   store-names.py store-records.py store-memory.py store-allocations.py store-file-allocations.py store-refusals.py store-disks.py \
-  store-model.py store-file-model.py store-random-faults.py store-random-stops.py store-decisions.py store-rare.py store-others.py \
-  store-failing.py store-gone.py store-choices.py store-file-choices.py store-links.py store-unread.py store-writing.py no-compile.py \
-  examples.py manual.sh completions.sh install.sh version.sh)
+  store-model.py store-file-model.py store-random-faults.py store-two-faults.py store-ends.py store-random-stops.py store-decisions.py \
+  store-rare.py store-others.py store-failing.py store-gone.py store-choices.py store-file-choices.py store-links.py store-unread.py \
+  store-writing.py store-several.py store-many.py no-compile.py examples.py manual.sh completions.sh install.sh version.sh)
 FARM := $(addprefix gate/,refusals.py reference-lines.sh line-mode.py answers.py codes.py arguments.py lists.py farm-folders.py \
   farm-calls.py farm-batches.py farm-shelves.py ends.sh numbers.py tables.py growth.py memory.py) tools/demo.sh
 FARM_NEEDS := rebuild,lrc_tests:tests,farm_lists_tests:tests,farm_tests:tests,store_tests:tests

@@ -15,7 +15,7 @@ import subprocess
 import sys
 
 ROOT = pathlib.Path(__file__).resolve().parent.parent
-SCRIPTS = ("store-model", "store-file-model", "store-random-faults", "store-two-faults", "store-random-stops")
+SCRIPTS = ("store-model", "store-file-model", "store-random-faults", "store-two-faults", "store-random-stops", "store-ends", "store-gone")
 # How many stores a process tries before it says that one of them failed.
 AT_ONCE = 25
 SHOWN = 600
