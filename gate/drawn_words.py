@@ -3,7 +3,7 @@
 import os
 
 import trees
-from drawn import sums_text
+from drawn import draw, spoil, sums_text
 from stores import digest
 
 REPORT = b"stripe,place,outcome,detail\n"
@@ -69,3 +69,13 @@ def lost(choose, drawn):
     if "--stripes" in named:
         words += named[-2:]
     return [*words, *(["--json"] if choose.random() < 0.3 else []), "PLACE/store"]
+
+
+def spoilt(words):
+    """Draws a store to which much has happened, and a command."""
+    def drawn_with(choose):
+        store = spoil(choose, draw(choose))
+        command = words(choose, store)
+        return store, command, store.tree()
+
+    return drawn_with

@@ -15,7 +15,6 @@ import sys
 
 # No compiled copy of the modules is left beside them.
 sys.dont_write_bytecode = True
-import drawn  # noqa: E402
 import drawn_files  # noqa: E402
 import drawn_words  # noqa: E402
 import faults  # noqa: E402
@@ -74,29 +73,19 @@ def try_stores(place, name, draw, stores):
         trial.take_away()
 
 
-def spoilt(words):
-    """Draws a store to which much has happened, and a command."""
-    def draw(choose):
-        store = drawn.spoil(choose, drawn.draw(choose))
-        command = words(choose, store)
-        return store, command, store.tree()
-
-    return draw
-
-
 def test_scrub(place, _choose):
     """Scrubs."""
-    try_stores(place, "scrub", spoilt(drawn_words.scrub), 20)
+    try_stores(place, "scrub", drawn_words.spoilt(drawn_words.scrub), 20)
 
 
 def test_repair(place, _choose):
     """Repairs."""
-    try_stores(place, "repair", spoilt(drawn_words.repair), 12)
+    try_stores(place, "repair", drawn_words.spoilt(drawn_words.repair), 12)
 
 
 def test_lost(place, _choose):
     """What is lost, and which files there are."""
-    try_stores(place, "lost", spoilt(drawn_words.lost), 30)
+    try_stores(place, "lost", drawn_words.spoilt(drawn_words.lost), 30)
 
 
 def test_verify(place, _choose):

@@ -13,7 +13,6 @@ import sys
 
 # No compiled copy of the modules is left beside them.
 sys.dont_write_bytecode = True
-import drawn  # noqa: E402
 import drawn_files  # noqa: E402
 import drawn_words  # noqa: E402
 import faults  # noqa: E402
@@ -47,17 +46,7 @@ def try_stores(place, name, stores, calls=CALLS):
         try_store(place, f"{name} {number}", DRAWS[name], calls, seen)
 
 
-def spoilt(words):
-    """Draws a store to which much has happened, and a command."""
-    def draw(choose):
-        store = drawn.spoil(choose, drawn.draw(choose))
-        command = words(choose, store)
-        return store, command, store.tree()
-
-    return draw
-
-
-DRAWS = {name: spoilt(words) for name, words in (("repair", drawn_words.repair), ("scrub", drawn_words.scrub), ("lost", drawn_words.lost))}
+DRAWS = {name: drawn_words.spoilt(getattr(drawn_words, name)) for name in ("repair", "scrub", "lost")}
 DRAWS |= {"encode": drawn_files.encode, "read": drawn_files.read, "verify": drawn_files.verify, "remove": drawn_files.remove}
 
 

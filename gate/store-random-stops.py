@@ -17,7 +17,6 @@ import sys
 
 # No compiled copy of the modules is left beside them.
 sys.dont_write_bytecode = True
-import drawn  # noqa: E402
 import drawn_files  # noqa: E402
 import drawn_words  # noqa: E402
 import refusals  # noqa: E402
@@ -175,29 +174,19 @@ def try_stores(place, name, draw, stores):
             try_store(place, f"{name} stopped {number}", draw, kind, seen)
 
 
-def spoilt(words):
-    """Draws a store to which much has happened, and a command."""
-    def draw(choose):
-        store = drawn.spoil(choose, drawn.draw(choose))
-        command = words(choose, store)
-        return store, command, store.tree()
-
-    return draw
-
-
 def test_repair(place, _choose):
     """Repairs."""
-    try_stores(place, "repair", spoilt(drawn_words.repair), 30)
+    try_stores(place, "repair", drawn_words.spoilt(drawn_words.repair), 30)
 
 
 def test_scrub(place, _choose):
     """Scrubs."""
-    try_stores(place, "scrub", spoilt(drawn_words.scrub), 15)
+    try_stores(place, "scrub", drawn_words.spoilt(drawn_words.scrub), 15)
 
 
 def test_lost(place, _choose):
     """What is lost, and which files there are."""
-    try_stores(place, "lost", spoilt(drawn_words.lost), 15)
+    try_stores(place, "lost", drawn_words.spoilt(drawn_words.lost), 15)
 
 
 def test_encode(place, _choose):

@@ -216,19 +216,9 @@ def try_stores(place, name, stores, draw):
         try_pairs(place, f"{name} {number}", draw, seen)
 
 
-def spoilt(words):
-    """Draws a store to which much has happened, and a command."""
-    def draw(choose):
-        store = drawn.spoil(choose, drawn.draw(choose))
-        command = words(choose, store)
-        return store, command, store.tree()
-
-    return draw
-
-
 def test_repair(place, _choose):
     """Repairs."""
-    try_stores(place, "two of repair", 35, spoilt(drawn_words.repair))
+    try_stores(place, "two of repair", 35, drawn_words.spoilt(drawn_words.repair))
 
 
 def test_encode(place, _choose):
@@ -253,12 +243,12 @@ def test_remove(place, _choose):
 
 def test_scrub(place, _choose):
     """Scrubs."""
-    try_stores(place, "two of scrub", 30, spoilt(drawn_words.scrub))
+    try_stores(place, "two of scrub", 30, drawn_words.spoilt(drawn_words.scrub))
 
 
 def test_lost(place, _choose):
     """What is lost, and which files there are."""
-    try_stores(place, "two of lost", 20, spoilt(drawn_words.lost))
+    try_stores(place, "two of lost", 20, drawn_words.spoilt(drawn_words.lost))
 
 
 # A table of mounts by which nothing is known of locks, so that a run that writes makes the file of one and removes it.
